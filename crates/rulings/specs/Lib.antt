@@ -1,0 +1,4 @@
+pub mod House
+pub mod HouseLaws
+pub mod Orders
+pub mod Ranking

@@ -1,0 +1,3 @@
+pub mod Cells
+pub mod Compacted
+pub mod Places
