@@ -105,6 +105,7 @@ impl<'a, R: Record> Table<'a, R> {
         ensures value { λ r. ⌜ r ≡ cond (roomy (now (self .entry))) (Ok tt) (Err TableFault.Full) ⌝ }
         ensures used { λ r. ⌜ used (now (self .exit)) ≡ cond (isOk r) (used (now (self .entry)) ++ item ∷ []) (used (now (self .entry))) ⌝ }
         ensures cells { λ r. ⌜ cells (now (self .exit)) ≡ cond (isOk r) (set (cells (now (self .entry))) (length (used (now (self .entry)))) item) (cells (now (self .entry))) ⌝ }
+        ensures room { λ _. ⌜ room (now (self .exit)) ≡ room (now (self .entry)) ⌝ }
     {
         let at = self.len;
         if at >= self.cells.len() {
@@ -120,6 +121,7 @@ impl<'a, R: Record> Table<'a, R> {
         ensures value { λ r. ⌜ r ≡ cond (isSome (first (λ x. has x key) (used (now (self .entry))))) (Ok tt) (Err (TableFault.Absent key)) ⌝ }
         ensures used { λ _. ⌜ used (now (self .exit)) ≡ replaced (λ x. has x key) item (used (now (self .entry))) ⌝ }
         ensures cells { λ _. ⌜ cells (now (self .exit)) ≡ used (now (self .exit)) ++ drop (length (used (now (self .entry)))) (cells (now (self .entry))) ⌝ }
+        ensures room { λ _. ⌜ room (now (self .exit)) ≡ room (now (self .entry)) ⌝ }
     {
         let Some(at) = position(self.used(), key) else {
             return Err(TableFault::Absent(key));
@@ -133,6 +135,7 @@ impl<'a, R: Record> Table<'a, R> {
         ensures value { λ r. ⌜ r + length (used (now (self .exit))) ≡ length (used (now (self .entry))) ⌝ }
         ensures used { λ _. ⌜ used (now (self .exit)) ≡ kept-by (stays (now (rule .entry))) (used (now (self .entry))) ⌝ }
         ensures cells { λ _. ⌜ cells (now (self .exit)) ≡ used (now (self .exit)) ++ drop (length (used (now (self .exit)))) (cells (now (self .entry))) ⌝ }
+        ensures room { λ _. ⌜ room (now (self .exit)) ≡ room (now (self .entry)) ⌝ }
     {
         let len = self.len.min(self.cells.len());
         let stay = compact(self.cells, len, rule);
@@ -145,6 +148,7 @@ impl<'a, R: Record> Table<'a, R> {
         ensures value { λ r. ⌜ r ≡ cond (isSome (first (λ x. has x key) (used (now (self .entry))))) (Ok tt) (Err (TableFault.Absent key)) ⌝ }
         ensures used { λ _. ⌜ used (now (self .exit)) ≡ kept-by (λ x. not (has x key)) (used (now (self .entry))) ⌝ }
         ensures cells { λ _. ⌜ cells (now (self .exit)) ≡ used (now (self .exit)) ++ drop (length (used (now (self .exit)))) (cells (now (self .entry))) ⌝ }
+        ensures room { λ _. ⌜ room (now (self .exit)) ≡ room (now (self .entry)) ⌝ }
     {
         if self.retain(&Others { key }) == 0 {
             return Err(TableFault::Absent(key));

@@ -11,6 +11,7 @@ returns-then-retain-eq0 g c =
       value = rw (none-passes (λ x. g .R·Record .has x (c .args .key)) _ (sym (ap length (told .used)) ∙ omega arith)) refl;
       used = told .used;
       cells = told .cells;
+      room = told .room;
     }
 
 pub returns : need.returns
@@ -21,4 +22,5 @@ returns g c =
       value = rw (some-passes (λ x. g .R·Record .has x (c .args .key)) xs (λ same. c .if-retain-eq0 .left (omega (arith, ap length (told .used))))) refl;
       used = told .used;
       cells = told .cells;
+      room = told .room;
     }

@@ -3,7 +3,7 @@ use Prim.Native.Nat.{_<_}
 use native.Mathlib.Omega.{arith}
 use lib.ListN.{length, take}
 use Rattle.std.specs.Options.{isSome}
-use Rattle.std.proofs.shelf.Lists.{length-take}
+use Rattle.std.proofs.shelf.Lists.{length-take, length-set}
 use Rattle.table.specs.Used.{place}
 use Rattle.table.proofs.Cells.{take-set-within, set-within, part-rest}
 use Rattle.table.proofs.Places.{first-at, replaced-at, found-nowhere}
@@ -23,6 +23,7 @@ returns-in-rest g c =
       value = rw (ap isSome (nowhere .0)) refl;
       used = sym (nowhere .1 (c .args .item));
       cells = part-rest all (c .args .self .now .len);
+      room = refl;
     }
 
 pub returns : need.returns
@@ -38,4 +39,5 @@ returns g c =
       value = rw (ap isSome (first-at test at (take n all) here y)) refl;
       used = ap (take n) (c .put .ensures) ∙ take-set-within all n at y within ∙ sym (replaced-at test at (take n all) here y);
       cells = rw (c .put .ensures) (set-within all n at y within);
+      room = ap length (c .put .ensures) ∙ length-set all at y;
     }

@@ -16,4 +16,5 @@ returns g c =
       value = went stays xs ys n _ _ (c .min-len .ensures) (facts .value) (facts .after);
       used = retained stays xs ys n _ _ (c .min-len .ensures) (facts .value) (facts .after);
       cells = retained-cells stays xs ys n _ _ (c .min-len .ensures) (facts .value) (facts .after);
+      room = c .compact-stay .kept .cells;
     }

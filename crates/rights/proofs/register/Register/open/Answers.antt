@@ -1,0 +1,34 @@
+use mathlib.Core.Path.{refl, sym, ap, _∙_}
+use native.Mathlib.Omega.{arith}
+use Rattle.std.specs.Results.{isOk}
+use Rattle.std.proofs.shelf.Tests.{true≢false}
+use Rattle.table.specs.Used.{used}
+use Rattle.rights.specs.declared.records.DraftRecord.{DraftRecord}
+use Rattle.rights.specs.State.{reserved}
+use Rattle.rights.specs.Contents.{contents}
+use Rattle.rights.specs.Calls.Call.{opening}
+use Rattle.rights.proofs.Obeyed.{obeyed-reply, obeyed-next, opening-fits}
+use Rattle.rights.proofs.Reservations.{reserved-added}
+use Rattle.rights.proofs.States.{same-state}
+use Rattle.rights.proofs.register.Register.open.Needs as need
+
+pub ghost-self : need.ghost-self
+ghost-self g c =
+    let R = g .R·Ruling .ranking (c .args .ruling .now) in
+    let was = c .args .self .now in
+    let opened : DraftRecord = record { draft = c .args .draft; owner = c .args .owner; policy = c .args .policy; cells = c .args .cells; last = 0 } in
+    let fits = opening-fits R (contents was) (c .args .draft) (c .args .owner) (c .args .policy) (c .args .cells) (sym (c .in-Continue-may-open .ensures tt)) in
+    let added = reserved-added (isOk (c .add .result)) (used (was .drafts)) opened in
+    (omega (arith, c .add .ensures .room, was .«places_few»), (was .«cells_few», (omega (arith, fits, added, ap reserved (c .add .ensures .used)), tt)))
+
+pub returns : need.returns
+returns g c =
+    let R = g .R·Ruling .ranking (c .args .ruling .now) in
+    let s = contents (c .args .self .now) in
+    let call = opening (c .args .draft) (c .args .owner) (c .args .policy) (c .args .cells) in
+    let none = sym (c .in-Continue-may-open .ensures tt) in
+    record {
+      told = obeyed-reply R s call none;
+      left = same-state (c .in-Continue-add .ensures tt .room) refl (c .in-Continue-add .ensures tt .used) refl ∙ obeyed-next R s call none;
+      same = λ e. absurd (true≢false e);
+    }

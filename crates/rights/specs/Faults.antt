@@ -1,0 +1,45 @@
+-- The numbers and layers of the register's faults. Assumes nothing.
+use mathlib.Core.Path.{_≡_, refl}
+use Prim.Native.Nat.{ℕ}
+use Rattle.std.specs.declared.option.Option.{Option}
+use Rattle.std.specs.declared.option.Option.the-variants.{Some, None}
+use Rattle.std.specs.declared.result.Result.{Result}
+use Rattle.std.specs.declared.result.Result.the-variants.{Ok, Err}
+use Rattle.table.specs.declared.TableFault.{TableFault}
+use Rattle.table.specs.declared.TableFault.the-variants.{Absent, Present, Full}
+use Rattle.rights.specs.declared.faults.Layer.{Layer}
+use Rattle.rights.specs.declared.faults.Layer.the-variants.{Table, Register}
+use Rattle.rights.specs.declared.faults.RegisterFault.{RegisterFault}
+use Rattle.rights.specs.declared.faults.RegisterFault.the-variants.{AccountTooLarge, PolicyUnknown, CellsOutOfRange, Draft, NoCellsLeft, NotOwner}
+use Rattle.rights.specs.Calls.{Reply}
+use Rattle.rights.specs.Calls.Reply.{refused}
+
+-- each fault's row of the refusal table
+abbrev pub number : RegisterFault → ℕ
+number AccountTooLarge = 1
+number PolicyUnknown = 4
+number CellsOutOfRange = 5
+number (Draft (Absent d)) = 6
+number (Draft (Present d)) = 7
+number (Draft Full) = 8
+number NoCellsLeft = 9
+number NotOwner = 10
+
+-- the layer that finds the fault
+abbrev pub layer : RegisterFault → Layer
+layer AccountTooLarge = Register
+layer PolicyUnknown = Register
+layer CellsOutOfRange = Register
+layer (Draft f) = Table
+layer NoCellsLeft = Register
+layer NotOwner = Register
+
+-- the number by which a call's result refuses, if it does
+abbrev pub refused-by : {T : Type 0} → Result T RegisterFault → Option ℕ
+refused-by (Ok x) = None
+refused-by (Err f) = Some (number f)
+
+-- a call's result as a reply, where `told` is the reply by what an obeyed one tells
+abbrev pub replied : {T : Type 0} → (T → Reply) → Result T RegisterFault → Reply
+replied told (Ok x) = told x
+replied told (Err f) = refused (number f)
