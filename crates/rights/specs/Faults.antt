@@ -1,6 +1,7 @@
 -- The numbers and layers of the register's faults. Assumes nothing.
-use mathlib.Core.Path.{_≡_, refl}
+use mathlib.Core.Bool.{cond, _||_}
 use Prim.Native.Nat.{ℕ}
+use lib.Dec.{eqb}
 use Rattle.std.specs.declared.option.Option.{Option}
 use Rattle.std.specs.declared.option.Option.the-variants.{Some, None}
 use Rattle.std.specs.declared.result.Result.{Result}
@@ -25,14 +26,9 @@ number (Draft Full) = 8
 number NoCellsLeft = 9
 number NotOwner = 10
 
--- the layer that finds the fault
-abbrev pub layer : RegisterFault → Layer
-layer AccountTooLarge = Register
-layer PolicyUnknown = Register
-layer CellsOutOfRange = Register
-layer (Draft f) = Table
-layer NoCellsLeft = Register
-layer NotOwner = Register
+-- the layer that finds what a row of the table refuses
+abbrev pub layer-of-row : ℕ → Layer
+layer-of-row n = cond (eqb n 6 || (eqb n 7 || eqb n 8)) Table Register
 
 -- the number by which a call's result refuses, if it does
 abbrev pub refused-by : {T : Type 0} → Result T RegisterFault → Option ℕ

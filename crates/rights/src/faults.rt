@@ -1,7 +1,7 @@
 // Why the register refuses. Each fault has its number in the refusal table and the layer that finds it.
 ghost use mathlib.Core.Path.{_≡_};
 ghost use Rattle.rights.specs.declared.faults.RegisterFault.the-variants.{Draft};
-ghost use Rattle.rights.specs.Faults.{number, layer};
+ghost use Rattle.rights.specs.Faults.{number, layer-of-row};
 use table::TableFault;
 
 #[derive(Clone, Copy)]
@@ -45,7 +45,7 @@ impl RegisterFault {
     }
 
     pub fn layer(self) -> Layer
-        ensures { λ r. ⌜ r ≡ layer self ⌝ }
+        ensures { λ r. ⌜ r ≡ layer-of-row (number self) ⌝ }
     {
         match self {
             RegisterFault::Draft(_) => Layer::Table,

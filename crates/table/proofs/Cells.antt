@@ -9,6 +9,8 @@ use lib.Dec.{ltb}
 use lib.ListN.{length, take, drop, set}
 use Rattle.std.proofs.shelf.Lists.{take-all, length-take}
 use Rattle.std.proofs.shelf.Tests.{cases-lt, lt-ltb, le-ltb}
+use Rattle.table.specs.declared.Table.{Table}
+use Rattle.table.specs.Used.{cells, room, used}
 
 module _ {R : Type 0} (xs : List R) (n : ℕ) where
   pub length-used : n ≤ length xs → length (take n xs) ≡ n
@@ -45,3 +47,6 @@ set-within xs zero i y within = absurd (omega arith)
 set-within [] (suc n) i y within = absurd (omega arith)
 set-within (x ∷ xs) (suc n) zero y within = ap (λ ys. y ∷ ys) (part-rest xs n)
 set-within (x ∷ xs) (suc n) (suc i) y within = ap (λ ys. x ∷ ys) (set-within xs n i y (omega arith))
+
+pub used-within : {R : Type 0} (t : Table R) → length (used t) ≤ room t
+used-within t = omega (arith, length-take (t .len) (cells t))

@@ -21,7 +21,7 @@ use table::TableFault;
 impl Register<'_> {
     // Closes the draft, drops its grants and its reservation, and tells how many grants stood; only its
     // owner may. Costs a pass over the drafts and one over the grants.
-    pub fn close(&mut self, draft: u16, caller: u16) -> Result<usize, RegisterFault>
+    pub fn close(&mut self, draft: u16, caller: u16) -> Result<u16, RegisterFault>
         ensures told { λ r. ⌜ ((R : Ranking) → replied closed r ≡ reply R (contents (now (self .entry))) (closing draft caller)) ⌝ }
         ensures left { λ _. ⌜ ((R : Ranking) → contents (now (self .exit)) ≡ next R (contents (now (self .entry))) (closing draft caller)) ⌝ }
         ensures same { λ r. ⌜ (isOk r ≡ false → now (self .exit) ≡ now (self .entry)) ⌝ }
@@ -35,7 +35,7 @@ impl Register<'_> {
         }
         let dropped = self.grants.retain(&OtherDrafts { draft });
         self.drafts.remove(draft)?;
-        Ok(dropped)
+        Ok(dropped as u16)
     }
 }
 

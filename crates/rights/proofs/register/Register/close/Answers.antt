@@ -6,6 +6,7 @@ use Rattle.std.proofs.shelf.Filters.{length-kept-by-both}
 use Rattle.std.proofs.shelf.Sums.{length-kept-by}
 use Rattle.std.proofs.shelf.Tests.{true≢false}
 use Rattle.table.specs.Used.{used}
+use Rattle.table.proofs.Cells.{used-within}
 use Rattle.rulings.specs.Ranking.{Ranking}
 use Rattle.rights.specs.declared.faults.RegisterFault.the-variants.{AccountTooLarge}
 use Rattle.rights.specs.Keys.{by-draft}
@@ -39,3 +40,8 @@ returns c =
       left = λ R. same-state (removed .room) (dropped .room) (removed .used) (dropped .used) ∙ obeyed-next R s call (none R);
       same = λ e. absurd (true≢false e);
     }
+
+pub cast-result : need.cast-result
+cast-result c =
+    let was = c .args .self .now in
+    omega (arith, c .retain-dropped .ensures .value, used-within (was .grants), was .«cells_few»)

@@ -1,0 +1,2 @@
+pub mod Overwritten
+pub mod Parsing
