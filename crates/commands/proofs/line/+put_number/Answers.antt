@@ -6,7 +6,7 @@ use lib.ListN.{length}
 use Rattle.std.specs.Written.{decimal}
 use Rattle.std.proofs.shelf.Decimals.{decimal-digit, decimal-step, decimal-some}
 use Rattle.std.proofs.shelf.Lists.{append-assoc, length-append}
-use Rattle.commands.specs.Text.{over}
+use Rattle.commands.proofs.Overwritten.{holds-same}
 use Rattle.commands.proofs.line.+put_number.Needs as need
 
 pub put-requires : need.put-requires
@@ -17,7 +17,7 @@ returns-then-value-lt10 t c =
     let digit = decimal-digit (c .args .value) (c .if-value-lt10 .taken) in
     record {
       value = omega (arith, c .put .ensures .value, ap length digit);
-      after = λ base front here held. c .put .ensures .after base front here held ∙ ap (λ d. over base (front ++ d)) (sym digit);
+      after = λ base front held. holds-same (ap (λ d. front ++ d) (sym digit)) (c .put .ensures .after base front held);
     }
 
 pub put-number-last-requires : need.put-number-last-requires
@@ -37,7 +37,7 @@ returns t c =
     let step = decimal-step (c .args .value) (c .if-value-lt10 .left) (omega arith) in
     record {
       value = omega (arith, c .put-2 .ensures .value, c .put-number-last .ensures .value, ap length step, length-append front-digits digit);
-      after = λ base front here held.
-        c .put-2 .ensures .after base (front ++ front-digits) (length-append front front-digits ∙ omega (arith, here, c .put-number-last .ensures .value)) (c .put-number-last .ensures .after base front here held)
-        ∙ ap (over base) (append-assoc front front-digits digit ∙ ap (λ d. front ++ d) (sym step));
+      after = λ base front held.
+        holds-same (append-assoc front front-digits digit ∙ ap (λ d. front ++ d) (sym step))
+        (c .put-2 .ensures .after base (front ++ front-digits) (c .put-number-last .ensures .after base front held));
     }
