@@ -1,3 +1,5 @@
 pub mod Format
 pub mod Lines
+pub mod Steps
+pub mod Stream
 pub mod Text

@@ -3,7 +3,11 @@ mod command;
 mod faults;
 mod line;
 mod obey;
+mod runs;
+mod steps;
 
-pub use command::Command;
 pub use command::Unread;
 pub use faults::StreamFault;
+pub use runs::run;
+pub use steps::Stepped;
+pub use steps::step;

@@ -14,6 +14,7 @@ use crate::obey::Outcome;
 pub fn write_line(buffer: &mut [u8], at: usize, result: Result<Outcome, StreamFault>) -> usize
     requires { ⌜ 32 ≤ length (now buffer) ⌝ ∗ ⌜ at < 65536 ⌝ }
     ensures value { λ r. ⌜ r ≡ length (line at (answer result)) ⌝ }
+    ensures bound { λ r. ⌜ r ≤ 32 ⌝ }
     ensures after { λ _. ⌜ now (buffer .exit) ≡ over (now (buffer .entry)) (line at (answer result)) ⌝ }
 {
     let n = put_number(buffer, 0, at);

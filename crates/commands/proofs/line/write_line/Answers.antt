@@ -32,4 +32,4 @@ returns c =
           (c .put-n .ensures .after base number
           (c .put-number-n .ensures .after base [] (holds-none base)))) in
     let line = holds-same (append-assoc (number ++ codes " ") text (10 ∷ []) ∙ append-assoc number (codes " ") (text ++ (10 ∷ []))) written in
-    record { value = sym (line .place); after = line .bytes; }
+    record { value = sym (line .place); bound = omega (arith, pair-short (c .args .at) (c .pre .1)); after = line .bytes; }
