@@ -9,7 +9,7 @@ use Rattle.commands.specs.Text.{Holds, over}
 
 -- nothing is written yet
 pub holds-none : (base : List ℕ) → Holds base [] 0 base
-holds-none base = record { place = refl; bytes = refl; }
+holds-none base = record { place = refl; bytes = refl }
 
 -- the same text by another name
 pub holds-same : {base front text buffer : List ℕ} {at : ℕ} → front ≡ text → Holds base front at buffer → Holds base text at buffer
@@ -29,8 +29,8 @@ module _ (base front : List ℕ) (buffer : List ℕ) (at : ℕ) (h : Holds base 
   holds-more text after written = record {
     place = length-append front text ∙ ap (λ k. k + length text) (h .place);
     bytes =
-      written
-      ∙ ap (λ b. b ++ (text ++ drop (length text) (drop at buffer))) (ap (take at) (h .bytes) ∙ take-at front (drop (length front) base) at (h .place))
-      ∙ sym (append-assoc front text (drop (length text) (drop at buffer)))
-      ∙ ap (λ b. (front ++ text) ++ b) (behind (length (front ++ text)) (length text) (length-append front text ∙ ap (λ k. k + length text) (h .place)));
+        written
+        ∙ ap (λ b. b ++ (text ++ drop (length text) (drop at buffer))) (ap (take at) (h .bytes) ∙ take-at front (drop (length front) base) at (h .place))
+        ∙ sym (append-assoc front text (drop (length text) (drop at buffer)))
+        ∙ ap (λ b. (front ++ text) ++ b) (behind (length (front ++ text)) (length text) (length-append front text ∙ ap (λ k. k + length text) (h .place)));
   }

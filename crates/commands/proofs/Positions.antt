@@ -41,8 +41,8 @@ module _ (input : List ℕ) (end : ℕ) (cut : end ≡ min (length input) 65536)
 operands-behind : (n : ℕ) (call : Call) (bs : List ℕ) → length (rest-of (operands n call bs)) ≤ length bs
 operands-behind n call bs =
     elim (leb n (length bs)) as (λ b. length (rest-of (cond b (Ok (call, drop n bs)) (Err 19))) ≤ length bs) [
-    | true ↦ omega (arith, length-drop n bs)
-    | false ↦ omega arith
+      | true ↦ omega (arith, length-drop n bs)
+      | false ↦ omega arith
     ]
 
 either-behind : (b : Bool) (p q : Parsed) (n : ℕ) → length (rest-of p) ≤ n → length (rest-of q) ≤ n → length (rest-of (cond b p q)) ≤ n
@@ -83,11 +83,11 @@ pub line-told : (stream : List ℕ) (at room : ℕ) (text : List ℕ) (n m : ℕ
 line-told stream at room text n m e =
     ⊎-elim
     (λ (before : at < length stream).
-      let goes = rw (lt-leb (length stream) at before) at e in
-      ⊎-elim
-      (λ (less : room < 32). let short = rw (lt-ltb room 32 less) at goes in let z : _≡_ {A = ℕ} 0 1 = cc in absurd (omega arith))
-      (λ (roomy : 32 ≤ room). let line = rw (le-ltb room 32 roomy) at goes in (before, cc, cc))
-      (cases-lt room 32))
+    let goes = rw (lt-leb (length stream) at before) at e in
+    ⊎-elim
+    (λ (less : room < 32). let short = rw (lt-ltb room 32 less) at goes in let z : _≡_ {A = ℕ} 0 1 = cc in absurd (omega arith))
+    (λ (roomy : 32 ≤ room). let line = rw (le-ltb room 32 roomy) at goes in (before, cc, cc))
+    (cases-lt room 32))
     (λ (past : length stream ≤ at). let ends = rw (le-leb (length stream) at past) at e in let z : _≡_ {A = ℕ} 0 1 = cc in absurd (omega arith))
     (cases-lt at (length stream))
 
@@ -96,10 +96,10 @@ pub finished-told : (stream : List ℕ) (at room : ℕ) (text : List ℕ) → Ok
 finished-told stream at room text e =
     ⊎-elim
     (λ (before : at < length stream).
-      let goes = rw (lt-leb (length stream) at before) at e in
-      ⊎-elim
-      (λ (less : room < 32). let short = rw (lt-ltb room 32 less) at goes in let z : _≡_ {A = ℕ} 0 1 = cc in absurd (omega arith))
-      (λ (roomy : 32 ≤ room). let line = rw (le-ltb room 32 roomy) at goes in let z : _≡_ {A = ℕ} 0 1 = cc in absurd (omega arith))
-      (cases-lt room 32))
+    let goes = rw (lt-leb (length stream) at before) at e in
+    ⊎-elim
+    (λ (less : room < 32). let short = rw (lt-ltb room 32 less) at goes in let z : _≡_ {A = ℕ} 0 1 = cc in absurd (omega arith))
+    (λ (roomy : 32 ≤ room). let line = rw (le-ltb room 32 roomy) at goes in let z : _≡_ {A = ℕ} 0 1 = cc in absurd (omega arith))
+    (cases-lt room 32))
     (λ (past : length stream ≤ at). past)
     (cases-lt at (length stream))

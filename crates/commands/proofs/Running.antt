@@ -23,7 +23,7 @@ pub record Under-way (R : Ranking) (stream : List ℕ) (start s : State) (at : �
 
 module _ (R : Ranking) (stream : List ℕ) where
   pub begins : (start : State) → Under-way R stream start start 0 []
-  begins start = record { more = length stream; enough = omega arith; within = omega arith; short = omega arith; written = refl; left = refl; }
+  begins start = record { more = length stream; enough = omega arith; within = omega arith; short = omega arith; written = refl; left = refl }
 
   -- no command is left at the end, whatever may still come
   none-left : (n at : ℕ) → length stream ≤ at → commands-from n stream at ≡ []
@@ -54,10 +54,10 @@ module _ (R : Ranking) (stream : List ℕ) where
               within = further .1;
               short = omega (arith, u .short, further .0, length-append out text);
               written =
-                append-assoc out text (lines R t later)
-                ∙ ap (λ b. out ++ (b ++ lines R t later)) is-text
-                ∙ ap (λ x. out ++ (line-at R s stream at ++ lines R x later)) is-state
-                ∙ ap (λ cs. out ++ lines R s cs) (sym (one-left n at before))
-                ∙ written;
+                  append-assoc out text (lines R t later)
+                  ∙ ap (λ b. out ++ (b ++ lines R t later)) is-text
+                  ∙ ap (λ x. out ++ (line-at R s stream at ++ lines R x later)) is-state
+                  ∙ ap (λ cs. out ++ lines R s cs) (sym (one-left n at before))
+                  ∙ written;
               left = ap (λ x. left-by R x later) is-state ∙ ap (λ cs. left-by R s cs) (sym (one-left n at before)) ∙ left;
             }

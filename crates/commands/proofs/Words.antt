@@ -16,8 +16,8 @@ use Rattle.commands.specs.Lines.{layer-word, register-word}
 pub layer-short : (n : ℕ) → length (layer-word n) ≤ 8
 layer-short n =
     elim (eqb n 17 || (eqb n 18 || eqb n 19)) as (λ b. length (cond b (codes "stream") (register-word (layer-of-row n))) ≤ 8) [
-    | true ↦ lit≤ tt
-    | false ↦ elim (layer-of-row n) as (λ l. length (register-word l) ≤ 8) [ Table ↦ lit≤ tt | Register ↦ lit≤ tt ]
+      | true ↦ lit≤ tt
+      | false ↦ elim (layer-of-row n) as (λ l. length (register-word l) ≤ 8) [ Table ↦ lit≤ tt | Register ↦ lit≤ tt ]
     ]
 
 -- numbers of one byte and of two

@@ -5,9 +5,21 @@ ghost use Rattle.commands.specs.Format.{parsed, open-operands, close-operands,
 
 #[derive(Clone, Copy)]
 pub enum Command {
-    Open { draft: u16, owner: u16, policy: u8, cells: u16 },
-    Close { draft: u16, caller: u16 },
-    Policy { draft: u16, caller: u16, policy: u8 },
+    Open {
+        draft: u16,
+        owner: u16,
+        policy: u8,
+        cells: u16,
+    },
+    Close {
+        draft: u16,
+        caller: u16,
+    },
+    Policy {
+        draft: u16,
+        caller: u16,
+        policy: u8,
+    },
 }
 
 // Why no command can be read.

@@ -23,7 +23,12 @@ pub enum Outcome {
 }
 
 // Makes the command's call; a fault carries the command's position.
-pub fn obey<R: Ruling>(register: &mut Register, ruling: &R, command: Command, at: usize) -> Result<Outcome, StreamFault>
+pub fn obey<R: Ruling>(
+    register: &mut Register,
+    ruling: &R,
+    command: Command,
+    at: usize,
+) -> Result<Outcome, StreamFault>
     ensures told { λ r. ⌜ answer r ≡ reply (ranking (now (ruling .entry))) (contents (now (register .entry))) (call-of command) ⌝ }
     ensures left { λ _. ⌜ contents (now (register .exit)) ≡ next (ranking (now (ruling .entry))) (contents (now (register .entry))) (call-of command) ⌝ }
     ensures same { λ r. ⌜ (isOk r ≡ false → now (register .exit) ≡ now (register .entry)) ⌝ }
@@ -34,7 +39,11 @@ pub fn obey<R: Ruling>(register: &mut Register, ruling: &R, command: Command, at
     }
 }
 
-fn call<R: Ruling>(register: &mut Register, ruling: &R, command: Command) -> Result<Outcome, RegisterFault>
+fn call<R: Ruling>(
+    register: &mut Register,
+    ruling: &R,
+    command: Command,
+) -> Result<Outcome, RegisterFault>
     ensures told { λ r. ⌜ replied outcome r ≡ reply (ranking (now (ruling .entry))) (contents (now (register .entry))) (call-of command) ⌝ }
     ensures left { λ _. ⌜ contents (now (register .exit)) ≡ next (ranking (now (ruling .entry))) (contents (now (register .entry))) (call-of command) ⌝ }
     ensures same { λ r. ⌜ (isOk r ≡ false → now (register .exit) ≡ now (register .entry)) ⌝ }

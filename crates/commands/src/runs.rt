@@ -18,7 +18,12 @@ use std::alloc::Global;
 
 // The lines of all commands of the input, in memory that is reserved before the first: where that is
 // wanting, nothing happens. Costs what the commands' calls cost, and 32 bytes for each byte that counts.
-pub fn run<R: Ruling>(heap: Global, register: &mut Register, ruling: &R, input: &[u8]) -> Result<Vec<u8>, AllocError>
+pub fn run<R: Ruling>(
+    heap: Global,
+    register: &mut Register,
+    ruling: &R,
+    input: &[u8],
+) -> Result<Vec<u8>, AllocError>
     ensures value { λ r. ⌜ made r (λ v. vec-items v ≡ lines (ranking (now (ruling .entry))) (contents (now (register .entry))) (commands (counted (now (input .entry))))) ⌝ }
     ensures left { λ r. ⌜ contents (now (register .exit)) ≡ cond (isOk r) (left-by (ranking (now (ruling .entry))) (contents (now (register .entry))) (commands (counted (now (input .entry))))) (contents (now (register .entry))) ⌝ }
     ensures same { λ r. ⌜ (isOk r ≡ false → now (register .exit) ≡ now (register .entry)) ⌝ }

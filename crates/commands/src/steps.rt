@@ -21,6 +21,7 @@ use rulings::Ruling;
 
 // How many bytes of an input count, and how many a line's buffer must have.
 pub const STREAM: usize = 65536;
+
 pub const LINE: usize = 32;
 
 // The stream is finished; or a line was written, of this length, and the next command is at that position.
@@ -32,7 +33,13 @@ pub enum Stepped {
 
 // Obeys the command at a position and writes its line, which is a refusal where the command is refused. It
 // refuses a buffer of fewer than 32 bytes itself. Costs what the command's call costs.
-pub fn step<R: Ruling>(register: &mut Register, ruling: &R, input: &[u8], at: usize, buffer: &mut [u8]) -> Result<Stepped, StreamFault>
+pub fn step<R: Ruling>(
+    register: &mut Register,
+    ruling: &R,
+    input: &[u8],
+    at: usize,
+    buffer: &mut [u8],
+) -> Result<Stepped, StreamFault>
     ensures value { λ r. ⌜ r ≡ told (counted (now (input .entry))) at (length (now (buffer .entry))) (line-at (ranking (now (ruling .entry))) (contents (now (register .entry))) (counted (now (input .entry))) at) ⌝ }
     ensures line { λ r. ⌜ now (buffer .exit) ≡ if-line r (over (now (buffer .entry)) (line-at (ranking (now (ruling .entry))) (contents (now (register .entry))) (counted (now (input .entry))) at)) (now (buffer .entry)) ⌝ }
     ensures left { λ r. ⌜ contents (now (register .exit)) ≡ if-line r (carried (ranking (now (ruling .entry))) (contents (now (register .entry))) (command-at (counted (now (input .entry))) at)) (contents (now (register .entry))) ⌝ }
@@ -53,7 +60,12 @@ pub fn step<R: Ruling>(register: &mut Register, ruling: &R, input: &[u8], at: us
 }
 
 // Obeys the command at the front of the bytes, and tells how many bytes lie behind it.
-fn obey_front<R: Ruling>(register: &mut Register, ruling: &R, bytes: &[u8], at: usize) -> (Result<Outcome, StreamFault>, usize)
+fn obey_front<R: Ruling>(
+    register: &mut Register,
+    ruling: &R,
+    bytes: &[u8],
+    at: usize,
+) -> (Result<Outcome, StreamFault>, usize)
     ensures value { λ r. ⌜ answer (r .0) ≡ answered (ranking (now (ruling .entry))) (contents (now (register .entry))) (parsed (now (bytes .entry))) ⌝ }
     ensures rest { λ r. ⌜ r .1 ≡ length (rest-of (parsed (now (bytes .entry)))) ⌝ }
     ensures left { λ _. ⌜ contents (now (register .exit)) ≡ carried (ranking (now (ruling .entry))) (contents (now (register .entry))) (parsed (now (bytes .entry))) ⌝ }

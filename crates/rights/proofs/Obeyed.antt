@@ -33,8 +33,8 @@ pub none-holds : (rows : List (ℕ × Bool)) → topmost rows ≡ None → None-
 none-holds [] none = tt
 none-holds (row ∷ rows) none =
     elim (row .1) as (λ b. cond b (Some (row .0)) (topmost rows) ≡ None → (b ≡ false) × None-holds rows) [
-    | true ↦ λ e. let z : _≡_ {A = ℕ} 0 1 = cc in absurd (omega arith)
-    | false ↦ λ e. (refl, none-holds rows e)
+      | true ↦ λ e. let z : _≡_ {A = ℕ} 0 1 = cc in absurd (omega arith)
+      | false ↦ λ e. (refl, none-holds rows e)
     ] none
 
 module _ (R : Ranking) (s : State) where

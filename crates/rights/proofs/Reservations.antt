@@ -21,11 +21,11 @@ pub reserved-replaced : (test : DraftRecord → Bool) (x y : DraftRecord) → y 
 reserved-replaced test x y same [] found = refl
 reserved-replaced test x y same (z ∷ zs) found =
     elim (test z) as (λ b. cond b (Some z) (first test zs) ≡ Some x → reserved (cond b (y ∷ zs) (z ∷ replaced test y zs)) ≡ reserved (z ∷ zs)) [
-    | true ↦ λ e.
-        let here : z ≡ x = cc in
-        omega (arith, sumBy-cons (λ w. w .cells) y zs, sumBy-cons (λ w. w .cells) z zs, same, ap (λ w. w .cells) here)
-    | false ↦ λ e.
-        omega (arith, sumBy-cons (λ w. w .cells) z (replaced test y zs), sumBy-cons (λ w. w .cells) z zs, reserved-replaced test x y same zs e)
+      | true ↦ λ e.
+          let here : z ≡ x = cc in
+          omega (arith, sumBy-cons (λ w. w .cells) y zs, sumBy-cons (λ w. w .cells) z zs, same, ap (λ w. w .cells) here)
+      | false ↦ λ e.
+          omega (arith, sumBy-cons (λ w. w .cells) z (replaced test y zs), sumBy-cons (λ w. w .cells) z zs, reserved-replaced test x y same zs e)
     ] found
 
 -- a record that was added, or was not

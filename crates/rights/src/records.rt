@@ -36,6 +36,28 @@ pub struct GrantKey {
     pub account: u16,
 }
 
+// What fills memory that is lent to a register; none of it is read.
+impl DraftRecord {
+    pub const BLANK: DraftRecord = DraftRecord {
+        draft: 0,
+        owner: 0,
+        policy: 0,
+        cells: 0,
+        last: 0,
+    };
+}
+
+impl GrantRecord {
+    pub const BLANK: GrantRecord = GrantRecord {
+        draft: 0,
+        right: 0,
+        grantor: 0,
+        account: 0,
+        kind: Kind::Denying,
+        serial: 0,
+    };
+}
+
 pub impl Record for DraftRecord as ByDraft {
     type Key = u16;
 
@@ -52,6 +74,9 @@ pub impl Record for GrantRecord as ByGrant {
     ghost has = { λ x key. by-grant key x };
 
     fn has_key(&self, key: GrantKey) -> bool {
-        self.draft == key.draft && self.right == key.right && self.grantor == key.grantor && self.account == key.account
+        self.draft == key.draft
+            && self.right == key.right
+            && self.grantor == key.grantor
+            && self.account == key.account
     }
 }

@@ -15,6 +15,7 @@ mod close;
 mod open;
 mod policy;
 
+#[derive(Drop)]
 pub struct Register<'a> {
     drafts: Table<'a, DraftRecord>,
     grants: Table<'a, GrantRecord>,

@@ -35,7 +35,7 @@ module _ {R : Type 0} (stays : R → Bool) (xs : List R) where
     pub more-goes : stays x ≡ false → Compacted ys k (i + 1)
     more-goes goes =
         let same : kept-by stays (take (i + 1) xs) ≡ kept-by stays (take i xs)
-              = kept-next ∙ ap (λ b. kept-by stays (take i xs) ++ cond b (x ∷ []) []) goes ∙ append-nil (kept-by stays (take i xs)) in
+        = kept-next ∙ ap (λ b. kept-by stays (take i xs) ++ cond b (x ∷ []) []) goes ∙ append-nil (kept-by stays (take i xs)) in
         record {
           count = c .count ∙ ap length (sym same);
           cells = c .cells ∙ ap (λ zs. zs ++ drop k xs) (sym same);
@@ -45,18 +45,18 @@ module _ {R : Type 0} (stays : R → Bool) (xs : List R) where
     pub more-stays : stays x ≡ true → Compacted (set ys k x) (k + 1) (i + 1)
     more-stays kept =
         let pushed : kept-by stays (take (i + 1) xs) ≡ kept-by stays (take i xs) ++ (x ∷ [])
-              = kept-next ∙ ap (λ b. kept-by stays (take i xs) ++ cond b (x ∷ []) []) kept in
+        = kept-next ∙ ap (λ b. kept-by stays (take i xs) ++ cond b (x ∷ []) []) kept in
         let here : k < length xs = omega (arith, c .behind) in
         let none : k - k ≡ 0 = omega arith in
         record {
           count = ap (λ n. n + 1) (c .count) ∙ sym (length-push (kept-by stays (take i xs)) x) ∙ ap length (sym pushed);
           cells =
-            ap (λ zs. set zs k x) (c .cells)
-            ∙ set-append-right (kept-by stays (take i xs)) (drop k xs) k k x (sym (c .count)) (omega arith)
-            ∙ ap (λ n. kept-by stays (take i xs) ++ set (drop k xs) n x) none
-            ∙ ap (λ zs. kept-by stays (take i xs) ++ set zs 0 x) (drop-more xs k x here)
-            ∙ sym (append-assoc (kept-by stays (take i xs)) (x ∷ []) (drop (k + 1) xs))
-            ∙ ap (λ zs. zs ++ drop (k + 1) xs) (sym pushed);
+              ap (λ zs. set zs k x) (c .cells)
+              ∙ set-append-right (kept-by stays (take i xs)) (drop k xs) k k x (sym (c .count)) (omega arith)
+              ∙ ap (λ n. kept-by stays (take i xs) ++ set (drop k xs) n x) none
+              ∙ ap (λ zs. kept-by stays (take i xs) ++ set zs 0 x) (drop-more xs k x here)
+              ∙ sym (append-assoc (kept-by stays (take i xs)) (x ∷ []) (drop (k + 1) xs))
+              ∙ ap (λ zs. zs ++ drop (k + 1) xs) (sym pushed);
           behind = omega (arith, c .behind);
         }
 

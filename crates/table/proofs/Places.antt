@@ -33,19 +33,19 @@ module _ {R : Type 0} (test : R → Bool) where
   found-at i j [] at = let z : _≡_ {A = ℕ} 0 1 = cc in absurd (omega arith)
   found-at i j (x ∷ xs) at =
       elim (test x) as (λ b. cond b (Some i) (place-from (i + 1) test xs) ≡ Some j → (i ≤ j) × ((d : R) → cond b (Some x) (first test xs) ≡ Some (getD (x ∷ xs) (j - i) d)) × ((y : R) → cond b (y ∷ xs) (x ∷ replaced test y xs) ≡ set (x ∷ xs) (j - i) y)) [
-      | true ↦ λ e. let same : i ≡ j = cc in let none : j - i ≡ 0 = omega arith in (omega arith, (λ d. rw none refl), (λ y. rw none refl))
-      | false ↦ λ e.
-          let f = found-at (i + 1) j xs e in
-          let more : j - i ≡ suc (j - (i + 1)) = omega (arith, f .0) in
-          (omega (arith, f .0), (λ d. rw more (f .1 d)), (λ y. rw more (ap (λ zs. x ∷ zs) (f .2 y))))
+        | true ↦ λ e. let same : i ≡ j = cc in let none : j - i ≡ 0 = omega arith in (omega arith, (λ d. rw none refl), (λ y. rw none refl))
+        | false ↦ λ e.
+            let f = found-at (i + 1) j xs e in
+            let more : j - i ≡ suc (j - (i + 1)) = omega (arith, f .0) in
+            (omega (arith, f .0), (λ d. rw more (f .1 d)), (λ y. rw more (ap (λ zs. x ∷ zs) (f .2 y))))
       ] at
 
   pub found-nowhere : (i : ℕ) (xs : List R) → place-from i test xs ≡ None → (first test xs ≡ None) × ((y : R) → replaced test y xs ≡ xs)
   found-nowhere i [] at = (refl, (λ y. refl))
   found-nowhere i (x ∷ xs) at =
       elim (test x) as (λ b. cond b (Some i) (place-from (i + 1) test xs) ≡ None → (cond b (Some x) (first test xs) ≡ None) × ((y : R) → cond b (y ∷ xs) (x ∷ replaced test y xs) ≡ x ∷ xs)) [
-      | true ↦ λ e. let z : _≡_ {A = ℕ} 0 1 = cc in absurd (omega arith)
-      | false ↦ λ e. let f = found-nowhere (i + 1) xs e in (f .0, (λ y. ap (λ zs. x ∷ zs) (f .1 y)))
+        | true ↦ λ e. let z : _≡_ {A = ℕ} 0 1 = cc in absurd (omega arith)
+        | false ↦ λ e. let f = found-nowhere (i + 1) xs e in (f .0, (λ y. ap (λ zs. x ∷ zs) (f .1 y)))
       ] at
 
   -- a record passes the test exactly where fewer records fail it than there are
@@ -53,16 +53,16 @@ module _ {R : Type 0} (test : R → Bool) where
   none-passes [] all = refl
   none-passes (x ∷ xs) all =
       elim (test x) as (λ b. length (cond (not b) (x ∷ kept-by (λ y. not (test y)) xs) (kept-by (λ y. not (test y)) xs)) ≡ suc (length xs) → isSome (cond b (Some x) (first test xs)) ≡ false) [
-      | true ↦ λ same. absurd (omega (arith, length-kept-by-both (λ y. not (test y)) (λ y. not (not (test y))) (λ _. refl) xs))
-      | false ↦ λ same. none-passes xs (omega arith)
+        | true ↦ λ same. absurd (omega (arith, length-kept-by-both (λ y. not (test y)) (λ y. not (not (test y))) (λ _. refl) xs))
+        | false ↦ λ same. none-passes xs (omega arith)
       ] all
 
   pub some-passes : (xs : List R) → (length (kept-by (λ x. not (test x)) xs) ≡ length xs → ⊥) → isSome (first test xs) ≡ true
   some-passes [] fewer = absurd (fewer refl)
   some-passes (x ∷ xs) fewer =
       elim (test x) as (λ b. (length (cond (not b) (x ∷ kept-by (λ y. not (test y)) xs) (kept-by (λ y. not (test y)) xs)) ≡ suc (length xs) → ⊥) → isSome (cond b (Some x) (first test xs)) ≡ true) [
-      | true ↦ λ _. refl
-      | false ↦ λ less. some-passes xs (λ same. less (ap suc same))
+        | true ↦ λ _. refl
+        | false ↦ λ less. some-passes xs (λ same. less (ap suc same))
       ] fewer
 
   module _ (j : ℕ) (xs : List R) (at : Some j ≡ place test xs) where

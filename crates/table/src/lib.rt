@@ -43,6 +43,7 @@ pub enum TableFault<K> {
     Full,
 }
 
+#[derive(Drop)]
 pub struct Table<'a, R> {
     cells: &'a mut [R],
     len: usize,
@@ -54,7 +55,10 @@ impl<'a, R: Record> Table<'a, R> {
         ensures used { λ r. ⌜ used r ≡ [] ⌝ }
         ensures cells { λ r. ⌜ cells r ≡ now (lent .entry) ⌝ }
     {
-        Table { cells: lent, len: 0 }
+        Table {
+            cells: lent,
+            len: 0,
+        }
     }
 
     pub fn used(&self) -> &[R]

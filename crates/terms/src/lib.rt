@@ -19,10 +19,12 @@ pub struct Claim {
 
 // Accounts are numbered below this, and rights below that.
 pub const ACCOUNTS: u16 = 512;
+
 pub const RIGHTS: u8 = 8;
 
 // How many draft places and grant cells of a register count.
 pub const PLACES: usize = 256;
+
 pub const CELLS: usize = 4096;
 
 // The most cells that one draft may reserve.

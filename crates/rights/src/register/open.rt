@@ -23,7 +23,14 @@ use rulings::Ruling;
 
 impl Register<'_> {
     // Opens a draft for its owner and reserves its cells until it is closed. Costs a pass over the drafts.
-    pub fn open<R: Ruling>(&mut self, ruling: &R, draft: u16, owner: u16, policy: u8, cells: u16) -> Result<(), RegisterFault>
+    pub fn open<R: Ruling>(
+        &mut self,
+        ruling: &R,
+        draft: u16,
+        owner: u16,
+        policy: u8,
+        cells: u16,
+    ) -> Result<(), RegisterFault>
         ensures told { λ r. ⌜ replied (λ _. done) r ≡ reply (ranking (now (ruling .entry))) (contents (now (self .entry))) (opening draft owner policy cells) ⌝ }
         ensures left { λ _. ⌜ contents (now (self .exit)) ≡ next (ranking (now (ruling .entry))) (contents (now (self .entry))) (opening draft owner policy cells) ⌝ }
         ensures same { λ r. ⌜ (isOk r ≡ false → now (self .exit) ≡ now (self .entry)) ⌝ }
@@ -40,7 +47,14 @@ impl Register<'_> {
         Ok(())
     }
 
-    fn may_open<R: Ruling>(&self, ruling: &R, draft: u16, owner: u16, policy: u8, cells: u16) -> Result<(), RegisterFault>
+    fn may_open<R: Ruling>(
+        &self,
+        ruling: &R,
+        draft: u16,
+        owner: u16,
+        policy: u8,
+        cells: u16,
+    ) -> Result<(), RegisterFault>
         ensures { λ r. ⌜ refused-by r ≡ refusal (ranking (now (ruling .entry))) (contents (now (self .entry))) (opening draft owner policy cells) ⌝ }
     {
         account_in_range(owner)?;

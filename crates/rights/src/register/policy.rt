@@ -19,7 +19,13 @@ use table::TableFault;
 
 impl Register<'_> {
     // Sets the draft's policy; only its owner may. Costs a pass over the drafts.
-    pub fn policy<R: Ruling>(&mut self, ruling: &R, draft: u16, caller: u16, policy: u8) -> Result<(), RegisterFault>
+    pub fn policy<R: Ruling>(
+        &mut self,
+        ruling: &R,
+        draft: u16,
+        caller: u16,
+        policy: u8,
+    ) -> Result<(), RegisterFault>
         ensures told { λ r. ⌜ replied (λ _. done) r ≡ reply (ranking (now (ruling .entry))) (contents (now (self .entry))) (policing draft caller policy) ⌝ }
         ensures left { λ _. ⌜ contents (now (self .exit)) ≡ next (ranking (now (ruling .entry))) (contents (now (self .entry))) (policing draft caller policy) ⌝ }
         ensures same { λ r. ⌜ (isOk r ≡ false → now (self .exit) ≡ now (self .entry)) ⌝ }

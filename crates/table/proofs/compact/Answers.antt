@@ -11,6 +11,6 @@ loop-i-again g c =
     let xs = c .args .cells .now in
     let within : c .loop-i .i < length xs = omega arith in
     elim (c .if-keeps .came) [
-    | then-keeps w ↦ rw (w .cells-is, w .stay-is) (more-stays (g .K·Retain .stays (c .args .rule .now)) xs (c .loop-i .inv) _ within (c .index-cells-i .is) (sym (w .if-keeps .ensures tt)))
-    | else-keeps w ↦ rw (w .cells-is, w .stay-is) (more-goes (g .K·Retain .stays (c .args .rule .now)) xs (c .loop-i .inv) _ within (c .index-cells-i .is) (sym (w .if-keeps .ensures tt)))
+      | then-keeps w ↦ rw (w .cells-is, w .stay-is) (more-stays (g .K·Retain .stays (c .args .rule .now)) xs (c .loop-i .inv) _ within (c .index-cells-i .is) (sym (w .if-keeps .ensures tt)))
+      | else-keeps w ↦ rw (w .cells-is, w .stay-is) (more-goes (g .K·Retain .stays (c .args .rule .now)) xs (c .loop-i .inv) _ within (c .index-cells-i .is) (sym (w .if-keeps .ensures tt)))
     ]

@@ -38,6 +38,6 @@ returns t c =
     record {
       value = omega (arith, c .put-2 .ensures .value, c .put-number-last .ensures .value, ap length step, length-append front-digits digit);
       after = λ base front held.
-        holds-same (append-assoc front front-digits digit ∙ ap (λ d. front ++ d) (sym step))
-        (c .put-2 .ensures .after base (front ++ front-digits) (c .put-number-last .ensures .after base front held));
+          holds-same (append-assoc front front-digits digit ∙ ap (λ d. front ++ d) (sym step))
+          (c .put-2 .ensures .after base (front ++ front-digits) (c .put-number-last .ensures .after base front held));
     }

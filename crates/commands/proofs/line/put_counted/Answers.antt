@@ -14,6 +14,6 @@ returns c =
     record {
       bound = omega (arith, pair-short (c .from .result) (omega arith), c .put-number .ensures .value, c .put-n .ensures .value);
       after = λ base front held.
-        holds-same (append-assoc front (c .args .word .now) (decimal (c .from .result)) ∙ ap (λ k. front ++ (c .args .word .now ++ decimal k)) (c .from .ensures))
-        (c .put-number .ensures .after base (front ++ c .args .word .now) (c .put-n .ensures .after base front held));
+          holds-same (append-assoc front (c .args .word .now) (decimal (c .from .result)) ∙ ap (λ k. front ++ (c .args .word .now ++ decimal k)) (c .from .ensures))
+          (c .put-number .ensures .after base (front ++ c .args .word .now) (c .put-n .ensures .after base front held));
     }

@@ -26,17 +26,17 @@ returns c =
     record {
       bound = omega (arith, byte-short (c .from .result) (omega arith), ap length (c .layer .ensures), layer-short n, c .put .ensures .value, c .put-n-2 .ensures .value, c .put-number-n .ensures .value, c .put-n .ensures .value);
       after = λ base front held.
-        let number : c .from .result ≡ n = c .from .ensures ∙ c .number .ensures in
-        let word = front ++ codes "refused " in
-        let written =
-              c .put .ensures .after base ((word ++ decimal (c .from .result)) ++ codes " ")
-              (c .put-n-2 .ensures .after base (word ++ decimal (c .from .result))
-              (c .put-number-n .ensures .after base word (c .put-n .ensures .after base front held))) in
-        holds-same
-        (append-assoc (word ++ decimal (c .from .result)) (codes " ") (c .layer .result .now)
-        ∙ append-assoc word (decimal (c .from .result)) (codes " " ++ c .layer .result .now)
-        ∙ append-assoc front (codes "refused ") (decimal (c .from .result) ++ (codes " " ++ c .layer .result .now))
-        ∙ ap (λ k. front ++ (codes "refused " ++ (decimal k ++ (codes " " ++ c .layer .result .now)))) number
-        ∙ ap (λ l. front ++ (codes "refused " ++ (decimal n ++ (codes " " ++ l)))) (c .layer .ensures))
-        written;
+          let number : c .from .result ≡ n = c .from .ensures ∙ c .number .ensures in
+          let word = front ++ codes "refused " in
+          let written =
+          c .put .ensures .after base ((word ++ decimal (c .from .result)) ++ codes " ")
+          (c .put-n-2 .ensures .after base (word ++ decimal (c .from .result))
+          (c .put-number-n .ensures .after base word (c .put-n .ensures .after base front held))) in
+          holds-same
+          (append-assoc (word ++ decimal (c .from .result)) (codes " ") (c .layer .result .now)
+          ∙ append-assoc word (decimal (c .from .result)) (codes " " ++ c .layer .result .now)
+          ∙ append-assoc front (codes "refused ") (decimal (c .from .result) ++ (codes " " ++ c .layer .result .now))
+          ∙ ap (λ k. front ++ (codes "refused " ++ (decimal k ++ (codes " " ++ c .layer .result .now)))) number
+          ∙ ap (λ l. front ++ (codes "refused " ++ (decimal n ++ (codes " " ++ l)))) (c .layer .ensures))
+          written;
     }

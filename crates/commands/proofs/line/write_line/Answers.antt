@@ -27,9 +27,9 @@ returns c =
     let number = decimal (c .args .at) in
     let text = words (answer (c .args .result)) in
     let written =
-          c .put .ensures .after base ((number ++ codes " ") ++ text)
-          (c .put-words-n .ensures .after base (number ++ codes " ")
-          (c .put-n .ensures .after base number
-          (c .put-number-n .ensures .after base [] (holds-none base)))) in
+    c .put .ensures .after base ((number ++ codes " ") ++ text)
+    (c .put-words-n .ensures .after base (number ++ codes " ")
+    (c .put-n .ensures .after base number
+    (c .put-number-n .ensures .after base [] (holds-none base)))) in
     let line = holds-same (append-assoc (number ++ codes " ") text (10 ∷ []) ∙ append-assoc number (codes " ") (text ++ (10 ∷ []))) written in
-    record { value = sym (line .place); bound = omega (arith, pair-short (c .args .at) (c .pre .1)); after = line .bytes; }
+    record { value = sym (line .place); bound = omega (arith, pair-short (c .args .at) (c .pre .1)); after = line .bytes }

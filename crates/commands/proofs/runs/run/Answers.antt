@@ -54,17 +54,18 @@ loop-told-again g c =
     let line = line-told stream at (length (c .loop-told .line)) text n (c .in-Line .next) (ap Ok (sym (c .in-Line .is)) ∙ told .value) in
     let piece = take (n - 0) (c .step .last .buffer) in
     let is-text : piece ≡ text
-          = ap (take (n - 0)) (told .line ∙ ap (λ t. if-line (Ok t) (over (c .loop-told .line) text) (c .loop-told .line)) (c .in-Line .is))
-          ∙ take-at text (drop (length text) (c .loop-told .line)) (n - 0) (omega (arith, line .1)) in
+    = ap (take (n - 0)) (told .line ∙ ap (λ t. if-line (Ok t) (over (c .loop-told .line) text) (c .loop-told .line)) (c .in-Line .is))
+    ∙ take-at text (drop (length text) (c .loop-told .line)) (n - 0) (omega (arith, line .1)) in
     let short : length piece ≤ 32 = omega (arith, length-take (n - 0) (c .step .last .buffer), told .bound, ap (λ t. line-length (Ok t)) (c .in-Line .is)) in
     let left = told .left ∙ ap (λ t. if-line (Ok t) (carried R s (command-at stream at)) s) (c .in-Line .is) in
     let further = goes-on R stream (c .loop-told .inv .0) (line .0) piece (contents (c .step .last .register)) short is-text left in
     let extended = c .in-Continue-extend-from-slice .ensures tt in
-    let start = contents (c .args .register .now) in
-    (subst (λ out. Under-way R stream start (contents (c .step .last .register)) (c .in-Line .next) out) (sym (extended .items))
-    (subst (λ k. Under-way R stream start (contents (c .step .last .register)) k (vec-items (c .loop-told .out) ++ piece)) (sym (line .2)) further),
-    omega (arith, extended .capacity, c .loop-told .inv .1),
-    omega arith)
+    let start = contents (c .args .register .now) in (
+      subst (λ out. Under-way R stream start (contents (c .step .last .register)) (c .in-Line .next) out) (sym (extended .items))
+          (subst (λ k. Under-way R stream start (contents (c .step .last .register)) k (vec-items (c .loop-told .out) ++ piece)) (sym (line .2)) further),
+      omega (arith, extended .capacity, c .loop-told .inv .1),
+      omega arith,
+    )
 
 pub returns-in-rest-told : need.returns-in-rest-told
 returns-in-rest-told g c =

@@ -17,12 +17,12 @@ use Rattle.commands.proofs.steps.step.Needs as need
 pub returns-then-at-end : need.returns-then-at-end
 returns-then-at-end g c =
     let finished : length (counted (c .args .input .now)) ≤ c .args .at = omega (arith, counted-length (c .args .input .now) (c .min-end .result) (c .min-end .ensures)) in
-    record { value = rw (le-leb _ _ finished) refl; line = refl; left = refl; same = λ _. refl; bound = lit≤ tt; }
+    record { value = rw (le-leb _ _ finished) refl; line = refl; left = refl; same = λ _. refl; bound = lit≤ tt }
 
 pub returns-then-buffer-lt-LINE : need.returns-then-buffer-lt-LINE
 returns-then-buffer-lt-LINE g c =
     let goes-on : c .args .at < length (counted (c .args .input .now)) = omega (arith, counted-length (c .args .input .now) (c .min-end .result) (c .min-end .ensures)) in
-    record { value = rw (lt-leb _ _ goes-on, lt-ltb _ _ (c .if-buffer-lt-LINE .taken)) refl; line = refl; left = refl; same = λ _. refl; bound = lit≤ tt; }
+    record { value = rw (lt-leb _ _ goes-on, lt-ltb _ _ (c .if-buffer-lt-LINE .taken)) refl; line = refl; left = refl; same = λ _. refl; bound = lit≤ tt }
 
 pub sub-next : need.sub-next
 sub-next g c =
@@ -46,9 +46,9 @@ returns g c =
     let behind = told .rest ∙ ap (λ bs. length (rest-of (parsed bs))) part in
     record {
       value =
-        told-line stream at (length (c .args .buffer .now)) (line at (answered R s (command-at stream at))) _ _ goes-on (c .if-buffer-lt-LINE .left)
-        (c .write-line-length .ensures .value ∙ ap (λ r. length (line at r)) replied)
-        (ap (λ n. n - c .obey-front-result .result .1) (sym long) ∙ ap (λ n. length stream - n) behind);
+          told-line stream at (length (c .args .buffer .now)) (line at (answered R s (command-at stream at))) _ _ goes-on (c .if-buffer-lt-LINE .left)
+          (c .write-line-length .ensures .value ∙ ap (λ r. length (line at r)) replied)
+          (ap (λ n. n - c .obey-front-result .result .1) (sym long) ∙ ap (λ n. length stream - n) behind);
       line = c .write-line-length .ensures .after ∙ ap (λ r. over (c .args .buffer .now) (line at r)) replied;
       left = told .left ∙ ap (λ bs. carried R s (parsed bs)) part;
       same = λ refused. told .same (refused-from-fault (c .obey-front-result .result .0) (ap is-refused replied ∙ refused));

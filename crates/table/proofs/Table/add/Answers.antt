@@ -7,7 +7,7 @@ use Rattle.table.proofs.Cells.{has-room, has-no-room, length-used}
 use Rattle.table.proofs.Table.add.Needs as need
 
 pub returns-then-at-self : need.returns-then-at-self
-returns-then-at-self g c = record { value = rw (has-no-room (c .args .self .now .cells .now) _ (c .if-at-self .taken)) refl; used = refl; cells = refl; room = refl; }
+returns-then-at-self g c = record { value = rw (has-no-room (c .args .self .now .cells .now) _ (c .if-at-self .taken)) refl; used = refl; cells = refl; room = refl }
 
 pub returns : need.returns
 returns g c =

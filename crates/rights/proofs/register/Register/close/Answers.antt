@@ -32,7 +32,7 @@ returns c =
     let d = c .args .draft in
     let call = closing d (c .args .caller) in
     let none = λ (R : Ranking). closing-obeyed R s d (c .args .caller) (c .in-Some .found)
-          (passed _ AccountTooLarge tt (c .in-Continue-account-in-range .ensures tt)) (sym (c .in-Some .ensures tt)) (c .if-found-caller .left) in
+    (passed _ AccountTooLarge tt (c .in-Continue-account-in-range .ensures tt)) (sym (c .in-Some .ensures tt)) (c .if-found-caller .left) in
     let dropped = c .retain-dropped .ensures in
     let removed = c .in-Continue-remove .ensures tt in
     record {

@@ -29,8 +29,8 @@ returns g c =
     let call = policing (c .args .draft) (c .args .caller) (c .args .policy) in
     let found = sym (c .in-Some .ensures tt) in
     let none = policing-obeyed R s (c .args .draft) (c .args .caller) (c .in-Some .found)
-          (passed _ AccountTooLarge tt (c .in-Continue-account-in-range .ensures tt)) found (c .if-found-caller .left)
-          (c .args .policy) (passed _ PolicyUnknown tt (c .in-Continue-policy-known .ensures tt)) in
+    (passed _ AccountTooLarge tt (c .in-Continue-account-in-range .ensures tt)) found (c .if-found-caller .left)
+    (c .args .policy) (passed _ PolicyUnknown tt (c .in-Continue-policy-known .ensures tt)) in
     let replaced = c .in-Continue-replace .ensures tt in
     record {
       told = obeyed-reply R s call none;
