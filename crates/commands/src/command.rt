@@ -30,7 +30,7 @@ pub enum Unread {
 }
 
 // The command at the front of the bytes, and the bytes behind it.
-pub fn parse(bytes: &[u8]) -> Result<(Command, &[u8]), Unread>
+pub(crate) fn parse(bytes: &[u8]) -> Result<(Command, &[u8]), Unread>
     ensures { λ r. ⌜ read r ≡ parsed (now (bytes .entry)) ⌝ }
 {
     let [command, operands @ ..] = bytes else {

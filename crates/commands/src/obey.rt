@@ -23,7 +23,7 @@ pub enum Outcome {
 }
 
 // Makes the command's call; a fault carries the command's position.
-pub fn obey<R: Ruling>(
+pub(crate) fn obey<R: Ruling>(
     register: &mut Register,
     ruling: &R,
     command: Command,

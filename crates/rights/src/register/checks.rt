@@ -9,7 +9,7 @@ use rulings::Ruling;
 use terms::ACCOUNTS;
 use terms::DRAFT_CELLS;
 
-pub fn account_in_range(account: u16) -> Result<(), RegisterFault>
+pub(crate) fn account_in_range(account: u16) -> Result<(), RegisterFault>
     ensures { λ r. ⌜ r ≡ cond (ltb 511 account) (Err RegisterFault.AccountTooLarge) (Ok tt) ⌝ }
 {
     if account >= ACCOUNTS {
@@ -18,7 +18,7 @@ pub fn account_in_range(account: u16) -> Result<(), RegisterFault>
     Ok(())
 }
 
-pub fn policy_known<R: Ruling>(ruling: &R, policy: u8) -> Result<(), RegisterFault>
+pub(crate) fn policy_known<R: Ruling>(ruling: &R, policy: u8) -> Result<(), RegisterFault>
     ensures { λ r. ⌜ r ≡ cond (leb (ranking (now (ruling .entry)) .known) policy) (Err RegisterFault.PolicyUnknown) (Ok tt) ⌝ }
 {
     if ruling.knows(policy) {
@@ -28,7 +28,7 @@ pub fn policy_known<R: Ruling>(ruling: &R, policy: u8) -> Result<(), RegisterFau
     }
 }
 
-pub fn cells_in_range(cells: u16) -> Result<(), RegisterFault>
+pub(crate) fn cells_in_range(cells: u16) -> Result<(), RegisterFault>
     ensures { λ r. ⌜ r ≡ cond (eqb cells 0 || ltb 1024 cells) (Err RegisterFault.CellsOutOfRange) (Ok tt) ⌝ }
 {
     if cells == 0 || cells > DRAFT_CELLS {
