@@ -1,0 +1,44 @@
+// A set of accounts, one bit each. Every call costs a step.
+ghost use mathlib.Core.Path.{_≡_};
+ghost use mathlib.Core.Bool.{false, not, _&&_, _||_};
+ghost use Prim.Native.Nat.{ℕ};
+ghost use lib.Dec.{eqb, ltb};
+ghost use Rattle.charts.specs.Members.{member};
+use terms::ACCOUNTS;
+
+#[derive(Clone, Copy)]
+pub struct Accounts {
+    words: [u64; 8],
+}
+
+impl Accounts {
+    pub fn none() -> Accounts
+        ensures { λ r. ⌜ ((a : ℕ) → member r a ≡ false) ⌝ }
+    {
+        Accounts { words: [0; 8] }
+    }
+
+    pub fn contains(&self, account: u16) -> bool
+        ensures { λ r. ⌜ r ≡ member (now (self .entry)) account ⌝ }
+    {
+        if account >= ACCOUNTS {
+            return false;
+        }
+        let word = self.words[usize::from(account / 64)];
+        (word >> (account % 64)) & 1 == 1
+    }
+
+    // Puts the account in, and tells whether it is new; a number that is no account is left out.
+    pub fn insert(&mut self, account: u16) -> bool
+        ensures value { λ r. ⌜ r ≡ (ltb account 512 && not (member (now (self .entry)) account)) ⌝ }
+        ensures after { λ _. ⌜ ((b : ℕ) → member (now (self .exit)) b ≡ (member (now (self .entry)) b || (eqb b account && ltb b 512))) ⌝ }
+    {
+        if account >= ACCOUNTS || self.contains(account) {
+            return false;
+        }
+        let at = usize::from(account / 64);
+        let word = self.words[at];
+        self.words[at] = word | (1 << (account % 64));
+        true
+    }
+}

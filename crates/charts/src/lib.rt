@@ -1,0 +1,11 @@
+// Charts: directed graphs by their lines, the accounts that a search reaches, and what a line says.
+pub mod accounts;
+pub mod chart;
+pub mod reach;
+
+pub use accounts::Accounts;
+pub use chart::Chart;
+pub use chart::Line;
+pub use chart::Sign;
+pub use chart::SignedChart;
+pub use reach::search;
