@@ -1,3 +1,4 @@
 pub mod Bits
 pub mod Following
 pub mod Found
+pub mod Viewed

@@ -1,3 +1,4 @@
 pub mod Chains
 pub mod Members
 pub mod Passes
+pub mod Views

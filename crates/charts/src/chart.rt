@@ -23,6 +23,14 @@ pub struct Sign {
     pub serial: u16,
 }
 
+impl Sign {
+    // What stands for a sign where there is no line.
+    pub const NONE: Sign = Sign {
+        kind: Kind::Denying,
+        serial: 0,
+    };
+}
+
 pub trait Chart {
     ghost lines: { Self → List (Option Line) };
 

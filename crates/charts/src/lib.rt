@@ -2,6 +2,7 @@
 pub mod accounts;
 pub mod chart;
 pub mod reach;
+pub mod views;
 
 pub use accounts::Accounts;
 pub use chart::Chart;
@@ -9,3 +10,7 @@ pub use chart::Line;
 pub use chart::Sign;
 pub use chart::SignedChart;
 pub use reach::search;
+pub use views::Mark;
+pub use views::Marks;
+pub use views::Passing;
+pub use views::Without;
