@@ -1,8 +1,9 @@
 // A set of accounts, one bit each. Every call costs a step.
 ghost use mathlib.Core.Path.{_≡_};
-ghost use mathlib.Core.Bool.{false, not, _&&_, _||_};
+ghost use mathlib.Core.Bool.{true, false, not, _&&_, _||_};
 ghost use Prim.Native.Nat.{ℕ};
 ghost use lib.Dec.{eqb, ltb};
+ghost use Rattle.std.specs.Orderings.{Decides};
 ghost use Rattle.charts.specs.Members.{member};
 use terms::ACCOUNTS;
 
@@ -40,5 +41,38 @@ impl Accounts {
         let word = self.words[at];
         self.words[at] = word | (1 << (account % 64));
         true
+    }
+
+    // Puts in all accounts of another set, and tells whether one is new.
+    pub fn absorb(&mut self, other: &Accounts) -> bool
+        ensures after { λ _. ⌜ ((b : ℕ) → member (now (self .exit)) b ≡ (member (now (self .entry)) b || member (now (other .entry)) b)) ⌝ }
+        ensures new { λ r. ⌜ (r ≡ true → (b : ℕ) × (member (now (self .entry)) b ≡ false) × (member (now (self .exit)) b ≡ true)) ⌝ }
+        ensures same { λ r. ⌜ (r ≡ false → (b : ℕ) → member (now (self .exit)) b ≡ member (now (self .entry)) b) ⌝ }
+    {
+        let mut grew = false;
+        for k in 0..8 {
+            let word = self.words[k];
+            let more = other.words[k];
+            let joined = word | more;
+            if joined != word {
+                grew = true;
+            }
+            self.words[k] = joined;
+        }
+        grew
+    }
+
+    // Whether an account is in both sets.
+    pub fn meets(&self, other: &Accounts) -> bool
+        ensures { λ r. ⌜ Decides r ((b : ℕ) × (member (now (self .entry)) b ≡ true) × (member (now (other .entry)) b ≡ true)) ⌝ }
+    {
+        for k in 0..8 {
+            let word = self.words[k];
+            let more = other.words[k];
+            if word & more != 0 {
+                return true;
+            }
+        }
+        false
     }
 }
