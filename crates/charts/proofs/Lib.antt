@@ -1,5 +1,6 @@
 pub mod Bits
 pub mod Following
 pub mod Found
+pub mod Reached
 pub mod Viewed
 pub mod Words

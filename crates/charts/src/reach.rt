@@ -5,7 +5,7 @@ ghost use lib.ListN.{length};
 ghost use Rattle.std.specs.Orderings.{Decides};
 ghost use Rattle.charts.specs.Chains.{Chain};
 ghost use Rattle.charts.specs.Members.{member};
-ghost use Rattle.charts.specs.Passes.{Followed, Passed};
+ghost use Rattle.charts.specs.Passes.{Followed, Passed, reached-from, Is};
 use crate::accounts::Accounts;
 use crate::chart::Chart;
 use crate::chart::Line;
@@ -28,7 +28,7 @@ pub fn search<C: Chart>(chart: &C, start: u16) -> Accounts
 // Follows every line once; tells whether an account is new.
 fn pass<C: Chart>(chart: &C, start: u16, reached: &mut Accounts) -> bool
     requires { ⌜ start < 512 ⌝ }
-    ensures { λ r. ⌜ Passed (lines (now (chart .entry))) (length (lines (now (chart .entry)))) start (now (reached .entry)) (now (reached .exit)) r ⌝ }
+    ensures { λ r. ⌜ Passed (reached-from start) (Is start) (lines (now (chart .entry))) (length (lines (now (chart .entry)))) (now (reached .entry)) (now (reached .exit)) r ⌝ }
 {
     let mut grew = false;
     for i in 0..chart.len() {
@@ -40,7 +40,8 @@ fn pass<C: Chart>(chart: &C, start: u16, reached: &mut Accounts) -> bool
 // Puts in the account that the line leads to, where it comes from the start or from an account in the set;
 // tells whether it is new.
 fn follow(line: Option<Line>, start: u16, reached: &mut Accounts) -> bool
-    ensures { λ r. ⌜ Followed line start (now (reached .entry)) (now (reached .exit)) r ⌝ }
+    requires { ⌜ start < 512 ⌝ }
+    ensures { λ r. ⌜ Followed (reached-from start) (Is start) line (now (reached .entry)) (now (reached .exit)) r ⌝ }
 {
     let Some(line) = line else {
         return false;
