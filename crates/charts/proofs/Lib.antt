@@ -1,4 +1,5 @@
 pub mod Bits
+pub mod Climbed
 pub mod Following
 pub mod Found
 pub mod Reached

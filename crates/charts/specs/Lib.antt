@@ -1,4 +1,5 @@
 pub mod Chains
 pub mod Members
 pub mod Passes
+pub mod Sets
 pub mod Views

@@ -1,9 +1,12 @@
 // Charts: directed graphs by their lines, the accounts that a search reaches, and what a line says.
+pub mod above;
 pub mod accounts;
 pub mod chart;
 pub mod reach;
 pub mod views;
 
+pub use above::Above;
+pub use above::all_above;
 pub use accounts::Accounts;
 pub use chart::Chart;
 pub use chart::Line;
