@@ -5,8 +5,9 @@ pub mod chart;
 pub mod reach;
 pub mod views;
 
-pub use above::Above;
+pub use above::Sources;
 pub use above::all_above;
+pub use above::direct_sources;
 pub use accounts::Accounts;
 pub use chart::Chart;
 pub use chart::Line;

@@ -11,7 +11,7 @@ use Rattle.charts.specs.Members.{member}
 use Rattle.charts.specs.Passes.{Followed}
 use Rattle.charts.specs.Sets.{over, nobody, Any}
 use Rattle.charts.proofs.Climbed.{climbed}
-use Rattle.charts.proofs.above.Above.follow.Needs as need
+use Rattle.charts.proofs.above.Sources.follow.Needs as need
 
 pub returns : need.returns
 returns c =
