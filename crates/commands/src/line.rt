@@ -11,7 +11,11 @@ use crate::faults::StreamFault;
 use crate::obey::Outcome;
 
 // The line of what the command at a position gave; tells its length.
-pub(crate) fn write_line(buffer: &mut [u8], at: usize, result: Result<Outcome, StreamFault>) -> usize
+pub(crate) fn write_line(
+    buffer: &mut [u8],
+    at: usize,
+    result: Result<Outcome, StreamFault>,
+) -> usize
     requires { ⌜ 32 ≤ length (now buffer) ⌝ ∗ ⌜ at < 65536 ⌝ }
     ensures value { λ r. ⌜ r ≡ length (line at (answer result)) ⌝ }
     ensures bound { λ r. ⌜ r ≤ 32 ⌝ }
