@@ -24,11 +24,11 @@ power-bit k j =
     ⊎-elim
     (λ (same : j ≡ k). rw (same, eq-eqb k k refl) (ap (λ n. n / 2 ^ k % 2) (sym (one-mul (2 ^ k))) ∙ ap (λ n. n % 2) (shl-shr 1 k)))
     (⊎-elim
-      (λ (below : j < k).
-        let m = k - (j + 1) in
-        let split : 2 ^ k ≡ 2 ^ (suc m) * 2 ^ j = ap (λ n. 2 ^ n) (let e : k ≡ suc m + j = omega arith in e) ∙ pow-add 2 (suc m) j in
-        rw (ne-eqb j k (λ e. omega arith), split, shl-shr (2 ^ suc m) j) (ap (λ n. n % 2) (sym (one-mul (2 ^ suc m))) ∙ shifted-even 1 m))
-      (λ (above : k < j). let less : 2 ^ k < 2 ^ j = pow-lt above in rw (ne-eqb j k (λ e. omega arith), div-eq-of-lt less) refl))
+    (λ (below : j < k).
+    let m = k - (j + 1) in
+    let split : 2 ^ k ≡ 2 ^ (suc m) * 2 ^ j = ap (λ n. 2 ^ n) (let e : k ≡ suc m + j = omega arith in e) ∙ pow-add 2 (suc m) j in
+    rw (ne-eqb j k (λ e. omega arith), split, shl-shr (2 ^ suc m) j) (ap (λ n. n % 2) (sym (one-mul (2 ^ suc m))) ∙ shifted-even 1 m))
+    (λ (above : k < j). let less : 2 ^ k < 2 ^ j = pow-lt above in rw (ne-eqb j k (λ e. omega arith), div-eq-of-lt less) refl))
     (cases-order j k)
 
 either-bit : (x : ℕ) (b : Bool) → x < 2 → eqb (bitOr x (cond b 1 0)) 1 ≡ (eqb x 1 || b)
@@ -70,11 +70,11 @@ pub words-or : (words : List ℕ) (a b : ℕ) → a / 64 < length words →
 words-or words a b within =
     ⊎-elim
     (λ (row : b / 64 ≡ a / 64).
-      rw (row, getD-set-same words (a / 64) (bitOr (getD words (a / 64) 0) (2 ^ (a % 64))) 0 within, bit-or (getD words (a / 64) 0) (a % 64) (b % 64), same-place a b row)
-      (spread (ltb b 512) (bit (getD words (a / 64) 0) (b % 64)) (eqb b a)))
+    rw (row, getD-set-same words (a / 64) (bitOr (getD words (a / 64) 0) (2 ^ (a % 64))) 0 within, bit-or (getD words (a / 64) 0) (a % 64) (b % 64), same-place a b row)
+    (spread (ltb b 512) (bit (getD words (a / 64) 0) (b % 64)) (eqb b a)))
     (λ (other : b / 64 ≡ a / 64 → ⊥).
-      rw (getD-set-other words (a / 64) (b / 64) (bitOr (getD words (a / 64) 0) (2 ^ (a % 64))) 0 other, ne-eqb b a (λ e. other (ap (λ n. n / 64) e)))
-      (alone (ltb b 512) (bit (getD words (b / 64) 0) (b % 64))))
+    rw (getD-set-other words (a / 64) (b / 64) (bitOr (getD words (a / 64) 0) (2 ^ (a % 64))) 0 other, ne-eqb b a (λ e. other (ap (λ n. n / 64) e)))
+    (alone (ltb b 512) (bit (getD words (b / 64) 0) (b % 64))))
     (cases-eq (b / 64) (a / 64))
 
 -- the bits of two words together
@@ -131,15 +131,16 @@ differs n x y small small′ other = ⊎-elim (λ same. absurd (other (same-bits
     same? true false = inr true≢false
     same? false true = inr (λ e. true≢false (sym e))
     same? false false = inl refl
+
     agree : (m : ℕ) → ((j : ℕ) → j < m → bit x j ≡ bit y j) ⊎ ((j : ℕ) × (j < m) × (bit x j ≡ bit y j → ⊥))
     agree zero = inl (λ j below. absurd (omega arith))
     agree (suc m) =
         ⊎-elim
         (λ (all : (j : ℕ) → j < m → bit x j ≡ bit y j).
-          ⊎-elim
-          (λ (here : bit x m ≡ bit y m). inl (λ j below. ⊎-elim (λ (at : j ≡ m). ap (bit x) at ∙ here ∙ ap (bit y) (sym at)) (λ not-at. all j (⊎-elim (λ l. l) (λ past. absurd (not-at (omega arith))) (cases-lt j m))) (cases-eq j m)))
-          (λ d. inr (m, omega arith, d))
-          (same? (bit x m) (bit y m)))
+        ⊎-elim
+        (λ (here : bit x m ≡ bit y m). inl (λ j below. ⊎-elim (λ (at : j ≡ m). ap (bit x) at ∙ here ∙ ap (bit y) (sym at)) (λ not-at. all j (⊎-elim (λ l. l) (λ past. absurd (not-at (omega arith))) (cases-lt j m))) (cases-eq j m)))
+        (λ d. inr (m, omega arith, d))
+        (same? (bit x m) (bit y m)))
         (λ d. inr (d .0, omega (arith, d .1), d .2))
         (agree m)
 

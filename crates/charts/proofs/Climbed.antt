@@ -61,21 +61,21 @@ module _ (line : Line) (before : Sources) (mid last : Accounts) (new more : Bool
   found-before a m =
       ⊎-elim
       (λ middle.
-        ⊎-elim (λ old. inl (here-before a ∙ old))
-        (λ is. inr (inl (eqb-true a (line .from) (and-parts (eqb a (line .from)) (ltb a 512) is .0), tt)))
-        (or-cases (member (getD (before .sets) (line .to) nobody) a) (eqb a (line .from) && ltb a 512) (sym (put a) ∙ middle)))
+      ⊎-elim (λ old. inl (here-before a ∙ old))
+      (λ is. inr (inl (eqb-true a (line .from) (and-parts (eqb a (line .from)) (ltb a 512) is .0), tt)))
+      (or-cases (member (getD (before .sets) (line .to) nobody) a) (eqb a (line .from) && ltb a 512) (sym (put a) ∙ middle)))
       (λ higher. inr (inr (from-before a ∙ higher)))
       (or-cases (member mid a) (member (getD (before .sets) (line .from) nobody) a) (sym (joined a) ∙ m))
 
   unchanged : new ≡ false → more ≡ false → (a : ℕ) → member last a ≡ member (getD (before .sets) (line .to) nobody) a
   unchanged no-new no-more a =
       let old : member (getD (before .sets) (line .to) nobody) (line .from) ≡ true
-            = ⊎-elim (λ past. absurd (true≢false (sym (lt-ltb (line .from) 512 from-account) ∙ past))) (λ there. not-false _ there) (and-cases (ltb (line .from) 512) (not (member (getD (before .sets) (line .to) nobody) (line .from))) (sym told ∙ no-new)) in
+      = ⊎-elim (λ past. absurd (true≢false (sym (lt-ltb (line .from) 512 from-account) ∙ past))) (λ there. not-false _ there) (and-cases (ltb (line .from) 512) (not (member (getD (before .sets) (line .to) nobody) (line .from))) (sym told ∙ no-new)) in
       none no-more a ∙ put a
       ∙ ⊎-elim
-        (λ (is : a ≡ line .from). let m : member (getD (before .sets) (line .to) nobody) a ≡ true = ap (member (getD (before .sets) (line .to) nobody)) is ∙ old in or-left _ _ m ∙ sym m)
-        (λ (other : a ≡ line .from → ⊥). ap (λ t. member (getD (before .sets) (line .to) nobody) a || (t && ltb a 512)) (ne-eqb a (line .from) other) ∙ or-none (member (getD (before .sets) (line .to) nobody) a))
-        (cases-eq a (line .from))
+      (λ (is : a ≡ line .from). let m : member (getD (before .sets) (line .to) nobody) a ≡ true = ap (member (getD (before .sets) (line .to) nobody)) is ∙ old in or-left _ _ m ∙ sym m)
+      (λ (other : a ≡ line .from → ⊥). ap (λ t. member (getD (before .sets) (line .to) nobody) a || (t && ltb a 512)) (ne-eqb a (line .from) other) ∙ or-none (member (getD (before .sets) (line .to) nobody) a))
+      (cases-eq a (line .from))
     where
       or-none : (x : Bool) → (x || false) ≡ x
       or-none true = refl
@@ -85,28 +85,28 @@ module _ (line : Line) (before : Sources) (mid last : Accounts) (new more : Bool
   climbed = record {
     keeps = λ a b m. by-place (λ x. over before a x ≡ true → over after a x ≡ true) b (λ n. here a ∙ old-stays a (sym (here-before a) ∙ n)) (λ other n. elsewhere a b other ∙ n) m;
     sound = λ a b m.
-      by-place (λ x. over after a x ≡ true → (over before a x ≡ true) ⊎ ((c : ℕ) × (Some line ≡ Some (record { from = c; to = x })) × (c < 512) × (x < 512) × Known over Any before a c)) b
-      (λ n. ⊎-elim inl (λ known. inr (line .from, refl, from-account, to-account, known)) (found-before a (sym (here a) ∙ n)))
-      (λ other n. inl (sym (elsewhere a b other) ∙ n)) m;
+        by-place (λ x. over after a x ≡ true → (over before a x ≡ true) ⊎ ((c : ℕ) × (Some line ≡ Some (record { from = c; to = x })) × (c < 512) × (x < 512) × Known over Any before a c)) b
+        (λ n. ⊎-elim inl (λ known. inr (line .from, refl, from-account, to-account, known)) (found-before a (sym (here a) ∙ n)))
+        (λ other n. inl (sym (elsewhere a b other) ∙ n)) m;
     complete = λ a b c is _ _ known.
-      let to : line .to ≡ b = cc in
-      let from : line .from ≡ c = cc in
-      ap (over after a) (sym to) ∙ here a
-      ∙ ⊎-elim
+        let to : line .to ≡ b = cc in
+        let from : line .from ≡ c = cc in
+        ap (over after a) (sym to) ∙ here a
+        ∙ ⊎-elim
         (λ (begins : (a ≡ c) × Unit {0}). ap (member last) (begins .0 ∙ sym from) ∙ from-in)
         (λ m. higher-in a (ap (over before a) from ∙ m)) known;
     new = λ g.
-      ⊎-elim
-      (λ is-new.
+        ⊎-elim
+        (λ is-new.
         let parts = and-parts (ltb (line .from) 512) (not (member (getD (before .sets) (line .to) nobody) (line .from))) (sym told ∙ is-new) in
         (line .from, line .to, here-before (line .from) ∙ not-true _ (parts .1), here (line .from) ∙ from-in))
-      (λ is-more.
+        (λ is-more.
         let x = some is-more in
         (x .0, line .to, here-before (x .0) ∙ or-parts _ _ (sym (put (x .0)) ∙ x .1) .0, here (x .0) ∙ x .2))
-      (or-cases new more g);
+        (or-cases new more g);
     same = λ g a b.
-      let parts = or-parts new more g in
-      by-place (λ x. over after a x ≡ over before a x) b (here a ∙ unchanged (parts .0) (parts .1) a ∙ sym (here-before a)) (elsewhere a b);
+        let parts = or-parts new more g in
+        by-place (λ x. over after a x ≡ over before a x) b (here a ∙ unchanged (parts .0) (parts .1) a ∙ sym (here-before a)) (elsewhere a b);
   }
 
 pub over-accounts : (s : Sources) (a b : ℕ) → over s a b ≡ true → (a < 512) × (b < 512)
@@ -129,19 +129,20 @@ pub put-over : (line : Line) (before : Sources) (last : Accounts) → line .from
 put-over line before last from-account to-account within put a b =
     ⊎-elim
     (λ (is : b ≡ line .to).
-      ap (λ x. ltb x 512 && member (getD (set (before .sets) (line .to) last) x nobody) a) is
-      ∙ ap (λ t. t && member (getD (set (before .sets) (line .to) last) (line .to) nobody) a) (lt-ltb (line .to) 512 to-account)
-      ∙ ap (λ s. member s a) (getD-set-same (before .sets) (line .to) last nobody within)
-      ∙ put a
-      ∙ at-place (member (getD (before .sets) (line .to) nobody) a) (eqb a (line .from)) (eqb (line .from) a) (ltb a 512) (eqb (line .to) b) (ltb b 512) (turn a (line .from)) (eq-eqb (line .to) b (sym is)) (lt-ltb b 512 (omega arith))
-      ∙ ap (λ x. (ltb b 512 && member (getD (before .sets) x nobody) a) || joins (Some line) a b) (sym is))
+    ap (λ x. ltb x 512 && member (getD (set (before .sets) (line .to) last) x nobody) a) is
+    ∙ ap (λ t. t && member (getD (set (before .sets) (line .to) last) (line .to) nobody) a) (lt-ltb (line .to) 512 to-account)
+    ∙ ap (λ s. member s a) (getD-set-same (before .sets) (line .to) last nobody within)
+    ∙ put a
+    ∙ at-place (member (getD (before .sets) (line .to) nobody) a) (eqb a (line .from)) (eqb (line .from) a) (ltb a 512) (eqb (line .to) b) (ltb b 512) (turn a (line .from)) (eq-eqb (line .to) b (sym is)) (lt-ltb b 512 (omega arith))
+    ∙ ap (λ x. (ltb b 512 && member (getD (before .sets) x nobody) a) || joins (Some line) a b) (sym is))
     (λ (other : b ≡ line .to → ⊥).
-      ap (λ s. ltb b 512 && member s a) (getD-set-other (before .sets) (line .to) b last nobody other)
-      ∙ elsewhere-no (over before a b) (eqb (line .from) a) (eqb (line .to) b) (ltb a 512 && ltb b 512) (ne-eqb (line .to) b (λ e. other (sym e))))
+    ap (λ s. ltb b 512 && member s a) (getD-set-other (before .sets) (line .to) b last nobody other)
+    ∙ elsewhere-no (over before a b) (eqb (line .from) a) (eqb (line .to) b) (ltb a 512 && ltb b 512) (ne-eqb (line .to) b (λ e. other (sym e))))
     (cases-eq b (line .to))
   where
     turn : (x y : ℕ) → eqb x y ≡ eqb y x
     turn x y = ⊎-elim (λ (same : x ≡ y). eq-eqb x y same ∙ sym (eq-eqb y x (sym same))) (λ (other : x ≡ y → ⊥). ne-eqb x y other ∙ sym (ne-eqb y x (λ e. other (sym e)))) (cases-eq x y)
+
     at-place : (m e e′ t f u : Bool) → e ≡ e′ → f ≡ true → u ≡ true → (m || (e && t)) ≡ ((u && m) || (e′ && (f && (t && u))))
     at-place m e e′ t f u same is within = rw (same, is, within) (both m e′ t)
       where
@@ -150,6 +151,7 @@ put-over line before last from-account to-account within put a b =
         both false true true = refl
         both false true false = refl
         both false false t = refl
+
     elsewhere-no : (o e f r : Bool) → f ≡ false → o ≡ (o || (e && (f && r)))
     elsewhere-no true e f r no-f = refl
     elsewhere-no false true f r no-f = ap (λ x. x && r) (sym no-f)
@@ -168,7 +170,7 @@ joins-leads lines at a b (Some l) is e =
     let third = and-parts (ltb a 512) (ltb b 512) (second .1) in
     let from = eqb-true (l .from) a (first .0) in
     let to = eqb-true (l .to) b (second .0) in
-    record { line = is ∙ ap (λ x. Some (record { from = x; to = l .to })) from ∙ ap (λ y. Some (record { from = a; to = y })) to; from-account = ltb-true a 512 (third .0); to-account = ltb-true b 512 (third .1); }
+    record { line = is ∙ ap (λ x. Some (record { from = x; to = l .to })) from ∙ ap (λ y. Some (record { from = a; to = y })) to; from-account = ltb-true a 512 (third .0); to-account = ltb-true b 512 (third .1) }
 
 leads-joins : (lines : List (Option Line)) (at a b : ℕ) → Leads lines at a b → joins (getD lines at None) a b ≡ true
 leads-joins lines at a b leads =
@@ -179,8 +181,8 @@ pub collected-more : (lines : List (Option Line)) (i : ℕ) (before after : Sour
 collected-more lines i before after c put = record {
   sound = λ a b m. ⊎-elim (c .sound a b) (λ new. (i, joins-leads lines i a b (getD lines i None) refl new)) (or-cases (over before a b) (joins (getD lines i None) a b) (sym (put a b) ∙ m));
   complete = λ a b at within leads.
-    put a b
-    ∙ ⊎-elim
+      put a b
+      ∙ ⊎-elim
       (λ (here : at ≡ i). or-right (over before a b) _ (ap (λ k. joins (getD lines k None) a b) (sym here) ∙ leads-joins lines at a b leads))
       (λ (other : at ≡ i → ⊥). or-left (over before a b) _ (c .complete a b at (⊎-elim (λ l. l) (λ past. absurd (other (omega arith))) (cases-lt at i)) leads))
       (cases-eq at i);

@@ -43,20 +43,20 @@ module _ {S : Type 0} (reaches : S → ℕ → ℕ → Bool) (Starts : ℕ → T
     more-sound h a b m =
         ⊎-elim (p .sound h a b)
         (λ step.
-          let c = step .0 in
-          let leads : Leads lines i c b = record { line = step .1; from-account = step .2; to-account = step .3; } in
-          ⊎-elim
-          (λ (begins : (a ≡ c) × Starts a). let P : ℕ → Type 0 = λ x. Chain lines x b in subst P (sym (begins .0)) (one i leads))
-          (λ (reached : reaches mid a c ≡ true). snoc i (p .sound h a c reached) leads)
-          (step .4))
+        let c = step .0 in
+        let leads : Leads lines i c b = record { line = step .1; from-account = step .2; to-account = step .3 } in
+        ⊎-elim
+        (λ (begins : (a ≡ c) × Starts a). let P : ℕ → Type 0 = λ x. Chain lines x b in subst P (sym (begins .0)) (one i leads))
+        (λ (reached : reaches mid a c ≡ true). snoc i (p .sound h a c reached) leads)
+        (step .4))
         (f .sound a b m)
 
     more-new : (grew || new) ≡ true → (a : ℕ) × (b : ℕ) × (reaches before a b ≡ false) × (reaches after a b ≡ true)
     more-new g =
         ⊎-elim (λ old. let x = p .new old in (x .0, x .1, x .2, f .keeps (x .0) (x .1) (x .3)))
         (λ now.
-          let x = f .new now in
-          (x .0, x .1, ⊎-elim (λ there. absurd (true≢false (sym (p .keeps (x .0) (x .1) there) ∙ x .2))) (λ gone. gone) (cases-bool (reaches before (x .0) (x .1))), x .3))
+        let x = f .new now in
+        (x .0, x .1, ⊎-elim (λ there. absurd (true≢false (sym (p .keeps (x .0) (x .1) there) ∙ x .2))) (λ gone. gone) (cases-bool (reaches before (x .0) (x .1))), x .3))
         (or-cases grew new g)
 
     more-closed : (grew || new) ≡ false → (at a b c : ℕ) → at < i + 1 → Leads lines at c b → Known reaches Starts after a c → reaches after a b ≡ true

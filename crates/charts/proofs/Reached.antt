@@ -42,10 +42,10 @@ module _ (line : Line) (start : ℕ) (account : start < 512) (before after : Acc
   member-same g b =
       ⊎-elim
       (λ (here : b ≡ line .to).
-        ⊎-elim
-        (λ (past : ltb (line .to) 512 ≡ false). put b ∙ ap (λ t. member before b || (eqb b (line .to) && t)) (ap (λ n. ltb n 512) here ∙ past) ∙ ap (λ t. member before b || t) (and-right (eqb b (line .to)) false refl) ∙ or-none (member before b))
-        (λ there. let m : member before b ≡ true = ap (member before) here ∙ not-false (member before (line .to)) there in put b ∙ or-left (member before b) _ m ∙ sym m)
-        (and-cases (ltb (line .to) 512) (not (member before (line .to))) (sym told ∙ g)))
+      ⊎-elim
+      (λ (past : ltb (line .to) 512 ≡ false). put b ∙ ap (λ t. member before b || (eqb b (line .to) && t)) (ap (λ n. ltb n 512) here ∙ past) ∙ ap (λ t. member before b || t) (and-right (eqb b (line .to)) false refl) ∙ or-none (member before b))
+      (λ there. let m : member before b ≡ true = ap (member before) here ∙ not-false (member before (line .to)) there in put b ∙ or-left (member before b) _ m ∙ sym m)
+      (and-cases (ltb (line .to) 512) (not (member before (line .to))) (sym told ∙ g)))
       (λ (other : b ≡ line .to → ⊥). put b ∙ ap (λ t. member before b || (t && ltb b 512)) (ne-eqb b (line .to) other) ∙ or-none (member before b))
       (cases-eq b (line .to))
 
@@ -53,17 +53,17 @@ module _ (line : Line) (start : ℕ) (account : start < 512) (before after : Acc
   reached-more = record {
     keeps = λ a b m. let parts = and-parts (eqb a start) (member before b) m in and-from (eqb a start) (member after b) (parts .0) (put b ∙ or-left (member before b) _ (parts .1));
     sound = λ a b m.
-      let parts = and-parts (eqb a start) (member after b) m in
-      let is = eqb-true a start (parts .0) in
-      ⊎-elim (λ old. inl (and-from (eqb a start) (member before b) (parts .0) old))
-      (λ new. inr (line .from, ap (λ t. Some (record { from = line .from; to = t })) (sym (new .0)), from-account, new .1, known-from a is))
-      (member-found b (parts .1));
+        let parts = and-parts (eqb a start) (member after b) m in
+        let is = eqb-true a start (parts .0) in
+        ⊎-elim (λ old. inl (and-from (eqb a start) (member before b) (parts .0) old))
+        (λ new. inr (line .from, ap (λ t. Some (record { from = line .from; to = t })) (sym (new .0)), from-account, new .1, known-from a is))
+        (member-found b (parts .1));
     complete = λ a b c is _ within start-of.
-      let here : line .to ≡ b = cc in
-      let is-start : a ≡ start = ⊎-elim (λ (begins : (a ≡ c) × (a ≡ start)). begins .1) (λ m. eqb-true a start (and-parts (eqb a start) (member before c) m .0)) start-of in
-      and-from (eqb a start) (member after b) (eq-eqb a start is-start) (ap (member after) (sym here) ∙ member-put (omega arith));
+        let here : line .to ≡ b = cc in
+        let is-start : a ≡ start = ⊎-elim (λ (begins : (a ≡ c) × (a ≡ start)). begins .1) (λ m. eqb-true a start (and-parts (eqb a start) (member before c) m .0)) start-of in
+        and-from (eqb a start) (member after b) (eq-eqb a start is-start) (ap (member after) (sym here) ∙ member-put (omega arith));
     new = λ g.
-      let parts = and-parts (ltb (line .to) 512) (not (member before (line .to))) (sym told ∙ g) in
-      (start, line .to, and-right (eqb start start) (member before (line .to)) (not-true (member before (line .to)) (parts .1)), and-from (eqb start start) (member after (line .to)) (eq-eqb start start refl) (member-put (ltb-true (line .to) 512 (parts .0))));
+        let parts = and-parts (ltb (line .to) 512) (not (member before (line .to))) (sym told ∙ g) in
+        (start, line .to, and-right (eqb start start) (member before (line .to)) (not-true (member before (line .to)) (parts .1)), and-from (eqb start start) (member after (line .to)) (eq-eqb start start refl) (member-put (ltb-true (line .to) 512 (parts .0))));
     same = λ g a b. ap (λ t. eqb a start && t) (member-same g b);
   }

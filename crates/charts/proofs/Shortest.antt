@@ -20,7 +20,7 @@ use Rattle.charts.specs.Reaching.{between-accounts, any-line, reaches, above}
 pub leads-from : (lines : List (Option Line)) (at : ℕ) (l : Line) → getD lines at None ≡ Some l → between-accounts l ≡ true → Leads lines at (l .from) (l .to)
 leads-from lines at l is both =
     let parts = and-parts (ltb (l .from) 512) (ltb (l .to) 512) both in
-    record { line = is; from-account = ltb-true (l .from) 512 (parts .0); to-account = ltb-true (l .to) 512 (parts .1); }
+    record { line = is; from-account = ltb-true (l .from) 512 (parts .0); to-account = ltb-true (l .to) 512 (parts .1) }
 
 pub leads-between : {lines : List (Option Line)} {at a b : ℕ} → Leads lines at a b → between-accounts (record { from = a; to = b }) ≡ true
 leads-between {lines} {at} {a} {b} leads = and-from (ltb a 512) (ltb b 512) (lt-ltb a 512 (leads .from-account)) (lt-ltb b 512 (leads .to-account))
@@ -84,14 +84,14 @@ cut-back a (Some l) c b is =
     ⊎-elim
     (λ (from : l .from ≡ a). let none = sym (ap (λ t. cond t None (Some l)) (eq-eqb (l .from) a from)) ∙ is in let z : _≡_ {A = ℕ} 0 1 = cc in absurd (omega arith))
     (λ (other : l .from ≡ a → ⊥).
-      let some = sym (ap (λ t. cond t None (Some l)) (ne-eqb (l .from) a other)) ∙ is in
-      (some, (λ e. other (let f : l .from ≡ c = cc in f ∙ e))))
+    let some = sym (ap (λ t. cond t None (Some l)) (ne-eqb (l .from) a other)) ∙ is in
+    (some, (λ e. other (let f : l .from ≡ c = cc in f ∙ e))))
     (cases-eq (l .from) a)
 
 led-before : (a : ℕ) (lines : List (Option Line)) (at c b : ℕ) → Leads (without a lines) at c b → Leads lines at c b × (c ≡ a → ⊥)
 led-before a lines at c b leads =
     let back = cut-back a (getD lines at None) c b (sym (without-at a lines at) ∙ leads .line) in
-    (record { line = back .0; from-account = leads .from-account; to-account = leads .to-account; }, back .1)
+    (record { line = back .0; from-account = leads .from-account; to-account = leads .to-account }, back .1)
 
 -- a chain either keeps away from the lines of a, or goes on from its last stay at a
 avoid : (a : ℕ) {lines : List (Option Line)} {c b : ℕ} → Chain lines c b → Chain (without a lines) c b ⊎ ((at : ℕ) × (x : ℕ) × Leads lines at a x × ((x ≡ b) ⊎ Chain (without a lines) x b))
@@ -102,9 +102,9 @@ avoid a {lines} {c} {b} (one at leads) =
 avoid a {lines} {c} {b} (on {c = d} at leads rest) =
     ⊎-elim
     (λ away.
-      ⊎-elim (λ (here : c ≡ a). inr (at, d, subst (λ x. Leads lines at x d) here leads, inr away))
-      (λ other. inl (on at (still-leads a lines at c d other leads) away))
-      (cases-eq c a))
+    ⊎-elim (λ (here : c ≡ a). inr (at, d, subst (λ x. Leads lines at x d) here leads, inr away))
+    (λ other. inl (on at (still-leads a lines at c d other leads) away))
+    (cases-eq c a))
     inr (avoid a rest)
 
 not-from : (a : ℕ) (lines : List (Option Line)) (c b : ℕ) → c ≡ a → Chain (without a lines) c b → ⊥
@@ -149,7 +149,7 @@ reaches-more (suc n) a lines x b e =
     let parts = and-parts (eqb (l .from) x) (eqb (l .to) b || reaches n (without a lines) (l .to) b) (f .4) in
     let there = cut-back a (getD lines (f .0) None) (l .from) (l .to) (sym (without-at a lines (f .0)) ∙ f .2) .0 in
     let goes : (eqb (l .to) b || reaches n lines (l .to) b) ≡ true
-          = ⊎-elim (λ here. or-left (eqb (l .to) b) _ here) (λ later. or-right (eqb (l .to) b) _ (reaches-more n a lines (l .to) b later)) (or-cases (eqb (l .to) b) (reaches n (without a lines) (l .to) b) (parts .1)) in
+    = ⊎-elim (λ here. or-left (eqb (l .to) b) _ here) (λ later. or-right (eqb (l .to) b) _ (reaches-more n a lines (l .to) b later)) (or-cases (eqb (l .to) b) (reaches n (without a lines) (l .to) b) (parts .1)) in
     any-holds (λ k. eqb (k .from) x && (eqb (k .to) b || reaches n lines (k .to) b)) lines (f .0) l there (f .3) (and-from (eqb (l .from) x) _ (parts .0) goes)
 
 -- where a chain last leaves a
@@ -163,9 +163,9 @@ reaches-complete (suc n) lines a b enough chain =
     let last = last-stay chain in
     let x = last .1 in
     let goes : (eqb x b || reaches n lines x b) ≡ true
-          = ⊎-elim (λ (here : x ≡ b). or-left (eqb x b) _ (eq-eqb x b here))
-            (λ later. or-right (eqb x b) _ (reaches-more n a lines x b (reaches-complete n (without a lines) x b (omega (arith, one-fewer a lines (last .0) x (last .2 .line))) later)))
-            (last .3) in
+    = ⊎-elim (λ (here : x ≡ b). or-left (eqb x b) _ (eq-eqb x b here))
+    (λ later. or-right (eqb x b) _ (reaches-more n a lines x b (reaches-complete n (without a lines) x b (omega (arith, one-fewer a lines (last .0) x (last .2 .line))) later)))
+    (last .3) in
     any-holds (λ k. eqb (k .from) a && (eqb (k .to) b || reaches n lines (k .to) b)) lines (last .0) (record { from = a; to = x }) (last .2 .line) (leads-between (last .2)) (and-from (eqb a a) _ (eq-eqb a a refl) goes)
 
 pub above-decides : (lines : List (Option Line)) (a b : ℕ) → Decides (above lines a b) (Chain lines a b)

@@ -34,7 +34,7 @@ pub record Joining (ws os ns : List ℕ) (k : ℕ) (grew : Bool) : Type 0 where
   pub same : grew ≡ false → (i : ℕ) → i < k → bitOr (getD ws i 0) (getD os i 0) ≡ getD ws i 0
 
 pub joining-none : (ws os : List ℕ) → Joining ws os ws 0 false
-joining-none ws os = record { word = λ i. ap (λ t. cond t (bitOr (getD ws i 0) (getD os i 0)) (getD ws i 0)) (sym (le-ltb i 0 (omega arith))); long = refl; new = λ e. absurd (true≢false (sym e)); same = λ _ i below. absurd (omega arith); }
+joining-none ws os = record { word = λ i. ap (λ t. cond t (bitOr (getD ws i 0) (getD os i 0)) (getD ws i 0)) (sym (le-ltb i 0 (omega arith))); long = refl; new = λ e. absurd (true≢false (sym e)); same = λ _ i below. absurd (omega arith) }
 
 past-one : (i k : ℕ) → (i ≡ k → ⊥) → ltb i k ≡ ltb i (k + 1)
 past-one i k other =
@@ -51,14 +51,14 @@ module _ (ws os ns : List ℕ) (k : ℕ) (grew : Bool) (j : Joining ws os ns k g
   word-more i =
       ⊎-elim
       (λ (here : i ≡ k).
-        ap (λ n. getD (set ns k (bitOr (getD ns k 0) (getD os k 0))) n 0) here
-        ∙ getD-set-same ns k (bitOr (getD ns k 0) (getD os k 0)) 0 within
-        ∙ ap (λ w. bitOr w (getD os k 0)) at-k
-        ∙ ap (λ n. bitOr (getD ws n 0) (getD os n 0)) (sym here)
-        ∙ ap (λ t. cond t (bitOr (getD ws i 0) (getD os i 0)) (getD ws i 0)) (sym (lt-ltb i (k + 1) (omega arith))))
+      ap (λ n. getD (set ns k (bitOr (getD ns k 0) (getD os k 0))) n 0) here
+      ∙ getD-set-same ns k (bitOr (getD ns k 0) (getD os k 0)) 0 within
+      ∙ ap (λ w. bitOr w (getD os k 0)) at-k
+      ∙ ap (λ n. bitOr (getD ws n 0) (getD os n 0)) (sym here)
+      ∙ ap (λ t. cond t (bitOr (getD ws i 0) (getD os i 0)) (getD ws i 0)) (sym (lt-ltb i (k + 1) (omega arith))))
       (λ (other : i ≡ k → ⊥).
-        getD-set-other ns k i (bitOr (getD ns k 0) (getD os k 0)) 0 other ∙ j .word i
-        ∙ ap (λ t. cond t (bitOr (getD ws i 0) (getD os i 0)) (getD ws i 0)) (past-one i k other))
+      getD-set-other ns k i (bitOr (getD ns k 0) (getD os k 0)) 0 other ∙ j .word i
+      ∙ ap (λ t. cond t (bitOr (getD ws i 0) (getD os i 0)) (getD ws i 0)) (past-one i k other))
       (cases-eq i k)
 
   long-more : length (set ns k (bitOr (getD ns k 0) (getD os k 0))) ≡ length ws
@@ -70,10 +70,10 @@ module _ (ws os ns : List ℕ) (k : ℕ) (grew : Bool) (j : Joining ws os ns k g
     long = long-more;
     new = j .new;
     same = λ g i below.
-      ⊎-elim
-      (λ (here : i ≡ k). ap (λ n. bitOr (getD ws n 0) (getD os n 0)) here ∙ ap (λ w. bitOr w (getD os k 0)) (sym at-k) ∙ none ∙ at-k ∙ ap (λ n. getD ws n 0) (sym here))
-      (λ (other : i ≡ k → ⊥). j .same g i (ltb-true i k (past-one i k other ∙ lt-ltb i (k + 1) below)))
-      (cases-eq i k);
+        ⊎-elim
+        (λ (here : i ≡ k). ap (λ n. bitOr (getD ws n 0) (getD os n 0)) here ∙ ap (λ w. bitOr w (getD os k 0)) (sym at-k) ∙ none ∙ at-k ∙ ap (λ n. getD ws n 0) (sym here))
+        (λ (other : i ≡ k → ⊥). j .same g i (ltb-true i k (past-one i k other ∙ lt-ltb i (k + 1) below)))
+        (cases-eq i k);
   }
 
   pub joining-new : getD ns k 0 < 2 ^ 64 → bitOr (getD ns k 0) (getD os k 0) < 2 ^ 64 → (bitOr (getD ns k 0) (getD os k 0) ≡ getD ns k 0 → ⊥) → Joining ws os (set ns k (bitOr (getD ns k 0) (getD os k 0))) (k + 1) true
@@ -101,21 +101,22 @@ module _ (ws os ns : List ℕ) (k : ℕ) (grew : Bool) (j : Joining ws os ns k g
   joined-holds b =
       ⊎-elim
       (λ (account : b < 512).
-        ap (λ t. t && bit (getD ns (b / 64) 0) (b % 64)) (lt-ltb b 512 account)
-        ∙ ap (λ w. bit w (b % 64)) (at-word (b / 64) (omega arith))
-        ∙ bit-either (getD ws (b / 64) 0) (getD os (b / 64) 0) (b % 64)
-        ∙ ap (λ t. (t && bit (getD ws (b / 64) 0) (b % 64)) || (t && bit (getD os (b / 64) 0) (b % 64))) (sym (lt-ltb b 512 account)))
+      ap (λ t. t && bit (getD ns (b / 64) 0) (b % 64)) (lt-ltb b 512 account)
+      ∙ ap (λ w. bit w (b % 64)) (at-word (b / 64) (omega arith))
+      ∙ bit-either (getD ws (b / 64) 0) (getD os (b / 64) 0) (b % 64)
+      ∙ ap (λ t. (t && bit (getD ws (b / 64) 0) (b % 64)) || (t && bit (getD os (b / 64) 0) (b % 64))) (sym (lt-ltb b 512 account)))
       (λ (past : 512 ≤ b).
-        ap (λ t. t && bit (getD ns (b / 64) 0) (b % 64)) (le-ltb b 512 past)
-        ∙ ap (λ t. (t && bit (getD ws (b / 64) 0) (b % 64)) || (t && bit (getD os (b / 64) 0) (b % 64))) (sym (le-ltb b 512 past)))
+      ap (λ t. t && bit (getD ns (b / 64) 0) (b % 64)) (le-ltb b 512 past)
+      ∙ ap (λ t. (t && bit (getD ws (b / 64) 0) (b % 64)) || (t && bit (getD os (b / 64) 0) (b % 64))) (sym (le-ltb b 512 past)))
       (cases-lt b 512)
 
   pub joined-new : grew ≡ true → (b : ℕ) × (holds ws b ≡ false) × (holds ns b ≡ true)
   joined-new g =
-      let n = j .new g in
-      (64 * n .0 + n .1,
-      holds-at ws (n .0) (n .1) (n .2) (n .3) ∙ n .4,
-      holds-at ns (n .0) (n .1) (n .2) (n .3) ∙ ap (λ w. bit w (n .1)) (at-word (n .0) (n .2)) ∙ bit-either (getD ws (n .0) 0) (getD os (n .0) 0) (n .1) ∙ ap (λ t. bit (getD ws (n .0) 0) (n .1) || t) (n .5) ∙ or-right (bit (getD ws (n .0) 0) (n .1)) true refl)
+      let n = j .new g in (
+        64 * n .0 + n .1,
+        holds-at ws (n .0) (n .1) (n .2) (n .3) ∙ n .4,
+        holds-at ns (n .0) (n .1) (n .2) (n .3) ∙ ap (λ w. bit w (n .1)) (at-word (n .0) (n .2)) ∙ bit-either (getD ws (n .0) 0) (getD os (n .0) 0) (n .1) ∙ ap (λ t. bit (getD ws (n .0) 0) (n .1) || t) (n .5) ∙ or-right (bit (getD ws (n .0) 0) (n .1)) true refl,
+      )
 
   pub joined-same : grew ≡ false → (b : ℕ) → holds ns b ≡ holds ws b
   joined-same g b =

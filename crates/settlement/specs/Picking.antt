@@ -1,4 +1,5 @@
 -- The settled list, computed. Assumes nothing.
+use mathlib.Core.Path.{_≡_}
 use mathlib.Core.List.{List}
 use mathlib.Core.Bool.{Bool, true, false, cond, not, _&&_, _||_}
 use Prim.Native.Nat.{ℕ, zero, suc}
@@ -6,15 +7,23 @@ use lib.Dec.{eqb, ltb}
 use lib.ListN.{length, getD}
 use Rattle.std.specs.declared.option.Option.{Option}
 use Rattle.std.specs.declared.option.Option.the-variants.{Some, None}
+use Rattle.std.specs.Orderings.{Decides}
 use Rattle.rulings.specs.Ranking.{Ranking}
+use Rattle.charts.specs.declared.above.Sources.{Sources}
 use Rattle.charts.specs.declared.chart.Line.{Line}
 use Rattle.charts.specs.declared.chart.Sign.{Sign}
 use Rattle.charts.specs.Reaching.{between-accounts, any-line, above}
+use Rattle.charts.specs.Sets.{over}
 use Rattle.charts.specs.Views.{is-delegatable}
 use Rattle.settlement.specs.Settled.{Picks, claim-at}
 
 abbrev pub overridden : List (Option Line) → Line → Bool
 overridden lines l = any-line (λ k. eqb (k .to) (l .to) && above lines (k .from) (l .from)) lines
+
+-- the answer to whether some account has a line to where this one leads and is above where it comes from
+abbrev pub Flagged : Sources → Sources → Option Line → Bool → Type 0
+Flagged above direct None r = Unit {0}
+Flagged above direct (Some l) r = Decides r ((w : ℕ) × (over direct w (l .to) ≡ true) × (over above w (l .from) ≡ true))
 
 abbrev pub may-pass : (ℕ → Sign) → Option ℕ → Bool
 may-pass signs None = false
@@ -25,6 +34,12 @@ abbrev pub eligible : List (Option Line) → (ℕ → Sign) → ℕ → Picks �
 eligible lines signs owner picks a None = false
 eligible lines signs owner picks a (Some l) =
     between-accounts l && (eqb (l .to) a && (not (overridden lines l) && (eqb (l .from) owner || may-pass signs (picks (l .from)))))
+
+-- the account, if any, that a line may be picked for, where it is flagged as overridden or not
+abbrev pub Candidate : List (Option Line) → (ℕ → Sign) → ℕ → Picks → Bool → Option Line → Option ℕ → Type 0
+Candidate lines signs owner picks flag None r = r ≡ None
+Candidate lines signs owner picks flag (Some l) r =
+    r ≡ cond (between-accounts l && (not (eqb (l .to) owner) && (not flag && (eqb (l .from) owner || may-pass signs (picks (l .from)))))) (Some (l .to)) None
 
 -- the first place is to be picked rather than the second
 abbrev pub better : List (Option Line) → (ℕ → Sign) → Ranking → ℕ → ℕ → ℕ → Bool

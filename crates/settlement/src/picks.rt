@@ -18,7 +18,9 @@ impl Settlement {
     pub(crate) fn none() -> Settlement
         ensures { λ r. ⌜ ((a : ℕ) → picked r a ≡ None) ⌝ }
     {
-        Settlement { places: [None; 512] }
+        Settlement {
+            places: [None; 512],
+        }
     }
 
     // The place of the line picked for the account.

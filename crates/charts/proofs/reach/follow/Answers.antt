@@ -15,9 +15,9 @@ returns c =
     let start = c .args .start in
     let before = c .args .reached .now in
     let known : (line .from ≡ start) ⊎ (member before (line .from) ≡ true)
-          = elim (c .else-line-start .came) [
-            | else-line-start·by·then-line-start·else-not-contains w ↦ inr (sym (w .if-not-contains .ensures tt))
-            | else-line-start·by·else-line-start w ↦ inl (w .if-line-start .left)
-            ] in
+    = elim (c .else-line-start .came) [
+      | else-line-start·by·then-line-start·else-not-contains w ↦ inr (sym (w .if-not-contains .ensures tt))
+      | else-line-start·by·else-line-start w ↦ inl (w .if-line-start .left)
+    ] in
     subst (λ (l : Option Line). Followed (reached-from start) (Is start) l before (c .insert .last .self) (c .insert .result)) (sym (c .in-Some .is))
     (reached-more line start (c .pre) before (c .insert .last .self) (c .insert .result) known (c .insert .ensures .value) (c .insert .ensures .after))

@@ -29,6 +29,7 @@ returns g c =
     let start = c .args .start in
     let reached = c .pass .last .reached in
     let p = c .loop-test .ensures tt in
-    λ b.
-    ((λ m. p .sound (c .loop .inv) start b (and-from (eqb start start) (member reached b) (eq-eqb start start refl) m)),
-    (λ chain. and-parts (eqb start start) (member reached b) (all-found (reached-from start) (Is start) lines (c .loop .reached) reached p refl chain) .1))
+    λ b. (
+      (λ m. p .sound (c .loop .inv) start b (and-from (eqb start start) (member reached b) (eq-eqb start start refl) m)),
+      (λ chain. and-parts (eqb start start) (member reached b) (all-found (reached-from start) (Is start) lines (c .loop .reached) reached p refl chain) .1),
+    )

@@ -12,8 +12,8 @@ loop-k-again c =
     let os = c .args .other .now .words in
     let ns = c .loop-k .self .words in
     elim (c .if-joined-word .came) [
-    | then-joined-word w ↦ rw (w .grew-is) (joining-new ws os ns (c .loop-k .k) (c .loop-k .grew) (c .loop-k .inv) (c .loop-k-test .taken) (omega arith) (omega arith) (or-lt 64 (getD ns (c .loop-k .k) 0) (getD os (c .loop-k .k) 0) (omega arith) (omega arith)) (w .if-joined-word .taken))
-    | else-joined-word w ↦ rw (w .grew-is) (joining-same ws os ns (c .loop-k .k) (c .loop-k .grew) (c .loop-k .inv) (c .loop-k-test .taken) (omega arith) (w .if-joined-word .left))
+      | then-joined-word w ↦ rw (w .grew-is) (joining-new ws os ns (c .loop-k .k) (c .loop-k .grew) (c .loop-k .inv) (c .loop-k-test .taken) (omega arith) (omega arith) (or-lt 64 (getD ns (c .loop-k .k) 0) (getD os (c .loop-k .k) 0) (omega arith) (omega arith)) (w .if-joined-word .taken))
+      | else-joined-word w ↦ rw (w .grew-is) (joining-same ws os ns (c .loop-k .k) (c .loop-k .grew) (c .loop-k .inv) (c .loop-k-test .taken) (omega arith) (w .if-joined-word .left))
     ]
 
 pub returns : need.returns

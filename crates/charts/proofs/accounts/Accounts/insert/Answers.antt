@@ -17,10 +17,10 @@ returns c =
     let words = c .args .self .now .words in
     record {
       value =
-        ap (λ t. t && not false) (sym (lt-ltb a 512 (c .if-account-ge-ACCOUNTS .left)))
-        ∙ ap (λ m. ltb a 512 && not m) (c .if-contains .ensures tt);
+          ap (λ t. t && not false) (sym (lt-ltb a 512 (c .if-account-ge-ACCOUNTS .left)))
+          ∙ ap (λ m. ltb a 512 && not m) (c .if-contains .ensures tt);
       after = λ b.
-        ap (λ w. ltb b 512 && bit (getD (set words (c .from-at .result) (bitOr (getD words (c .from-at .result) 0) w)) (b / 64) 0) (b % 64)) (one-shl (a % 64) 64 (omega arith))
-        ∙ ap (λ i. ltb b 512 && bit (getD (set words i (bitOr (getD words i 0) (2 ^ (a % 64)))) (b / 64) 0) (b % 64)) (c .from-at .ensures)
-        ∙ words-or words a b (omega arith);
+          ap (λ w. ltb b 512 && bit (getD (set words (c .from-at .result) (bitOr (getD words (c .from-at .result) 0) w)) (b / 64) 0) (b % 64)) (one-shl (a % 64) 64 (omega arith))
+          ∙ ap (λ i. ltb b 512 && bit (getD (set words i (bitOr (getD words i 0) (2 ^ (a % 64)))) (b / 64) 0) (b % 64)) (c .from-at .ensures)
+          ∙ words-or words a b (omega arith);
     }
