@@ -1,4 +1,5 @@
 -- The line that each reply is written as. Assumes nothing.
+use mathlib.Core.Path.{_≡_}
 use mathlib.Core.List.{List, [], _∷_, _++_}
 use mathlib.Core.Bool.{cond, _||_}
 use Prim.Native.Nat.{ℕ}
@@ -24,6 +25,17 @@ abbrev pub stream-number : StreamFault → ℕ
 stream-number (ShortBuffer at) = 17
 stream-number (Unread at e) = unread-number e
 stream-number (OfRegister at f) = number f
+
+-- where the command is that a fault is about
+abbrev pub position : StreamFault → ℕ
+position (ShortBuffer at) = at
+position (Unread at e) = at
+position (OfRegister at f) = at
+
+-- a fault tells the position of the command
+abbrev pub tells-position : {T : Type 0} → ℕ → Result T StreamFault → Type 0
+tells-position at (Ok x) = Unit {0}
+tells-position at (Err f) = position f ≡ at
 
 abbrev pub register-word : Layer → List ℕ
 register-word Table = codes "table"

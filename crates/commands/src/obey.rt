@@ -7,7 +7,7 @@ ghost use Rattle.rights.specs.Contents.{contents};
 ghost use Rattle.rights.specs.Faults.{replied};
 ghost use Rattle.rights.specs.Meaning.{reply, next};
 ghost use Rattle.commands.specs.Format.{call-of};
-ghost use Rattle.commands.specs.Lines.{answer, outcome};
+ghost use Rattle.commands.specs.Lines.{answer, outcome, tells-position};
 use crate::command::Command;
 use crate::faults::FromRegister;
 use crate::faults::StreamFault;
@@ -32,6 +32,7 @@ pub(crate) fn obey<R: Ruling>(
     ensures told { λ r. ⌜ answer r ≡ reply (ranking (now (ruling .entry))) (contents (now (register .entry))) (call-of command) ⌝ }
     ensures left { λ _. ⌜ contents (now (register .exit)) ≡ next (ranking (now (ruling .entry))) (contents (now (register .entry))) (call-of command) ⌝ }
     ensures same { λ r. ⌜ (isOk r ≡ false → now (register .exit) ≡ now (register .entry)) ⌝ }
+    ensures about { λ r. ⌜ tells-position at r ⌝ }
 {
     match call(register, ruling, command) {
         Ok(outcome) => Ok(outcome),

@@ -9,7 +9,7 @@ ghost use Rattle.rights.specs.Contents.{contents};
 ghost use Rattle.commands.specs.Format.{parsed};
 ghost use Rattle.commands.specs.Steps.{told, if-line, line-length};
 ghost use Rattle.commands.specs.Stream.{counted, command-at, rest-of, answered, carried, line-at, is-refused};
-ghost use Rattle.commands.specs.Lines.{answer};
+ghost use Rattle.commands.specs.Lines.{answer, tells-position};
 ghost use Rattle.commands.specs.Text.{over};
 use crate::command::parse;
 use crate::faults::StreamFault;
@@ -70,6 +70,7 @@ fn obey_front<R: Ruling>(
     ensures rest { λ r. ⌜ r .1 ≡ length (rest-of (parsed (now (bytes .entry)))) ⌝ }
     ensures left { λ _. ⌜ contents (now (register .exit)) ≡ carried (ranking (now (ruling .entry))) (contents (now (register .entry))) (parsed (now (bytes .entry))) ⌝ }
     ensures same { λ r. ⌜ (isOk (r .0) ≡ false → now (register .exit) ≡ now (register .entry)) ⌝ }
+    ensures about { λ r. ⌜ tells-position at (r .0) ⌝ }
 {
     match parse(bytes) {
         Ok((command, rest)) => (obey(register, ruling, command, at), rest.len()),

@@ -1,4 +1,5 @@
 -- The numbers and layers of the register's faults. Assumes nothing.
+use mathlib.Core.Path.{_≡_}
 use mathlib.Core.Bool.{cond, _||_}
 use Prim.Native.Nat.{ℕ}
 use lib.Dec.{eqb}
@@ -39,3 +40,18 @@ refused-by (Err f) = Some (number f)
 abbrev pub replied : {T : Type 0} → (T → Reply) → Result T RegisterFault → Reply
 replied told (Ok x) = told x
 replied told (Err f) = refused (number f)
+
+-- a fault of the table of drafts tells the draft d
+abbrev pub key-told : ℕ → RegisterFault → Type 0
+key-told d AccountTooLarge = Unit {0}
+key-told d PolicyUnknown = Unit {0}
+key-told d CellsOutOfRange = Unit {0}
+key-told d (Draft (Absent k)) = k ≡ d
+key-told d (Draft (Present k)) = k ≡ d
+key-told d (Draft Full) = Unit {0}
+key-told d NoCellsLeft = Unit {0}
+key-told d NotOwner = Unit {0}
+
+abbrev pub tells-draft : {T : Type 0} → ℕ → Result T RegisterFault → Type 0
+tells-draft d (Ok x) = Unit {0}
+tells-draft d (Err f) = key-told d f

@@ -1,3 +1,4 @@
+pub mod Examples
 pub mod Picked
 pub mod Picking
 pub mod Settled

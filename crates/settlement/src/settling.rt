@@ -8,6 +8,7 @@ ghost use Rattle.rulings.specs.Ranking.{Ranking};
 ghost use Rattle.charts.specs.declared.chart.Line.{Line as ChartLine};
 ghost use Rattle.charts.specs.Chains.{No-circle};
 ghost use Rattle.charts.specs.Reaching.{between-accounts};
+ghost use Rattle.settlement.specs.Examples.{Worked-examples};
 ghost use Rattle.settlement.specs.Picked.{picked};
 ghost use Rattle.settlement.specs.Picking.{overridden, repicked, settled};
 ghost use Rattle.settlement.specs.Settled.{Settled, One-each, Picks};
@@ -30,6 +31,7 @@ pub fn settle<C: SignedChart, R: Ruling>(
     ensures value { λ r. ⌜ ((a : ℕ) → picked r a ≡ settled (C·Chart .lines (now (chart .entry))) (signs (now (chart .entry))) owner (ranking (now (ruling .entry))) policy a) ⌝ }
     ensures settled { λ r. ⌜ (No-circle (C·Chart .lines (now (chart .entry))) → policy < ranking (now (ruling .entry)) .known → Settled (C·Chart .lines (now (chart .entry))) (signs (now (chart .entry))) owner (ranking (now (ruling .entry))) policy (picked r)) ⌝ }
     ensures only { λ r. ⌜ (No-circle (C·Chart .lines (now (chart .entry))) → One-each (C·Chart .lines (now (chart .entry))) → policy < ranking (now (ruling .entry)) .known → (other : Picks) → Settled (C·Chart .lines (now (chart .entry))) (signs (now (chart .entry))) owner (ranking (now (ruling .entry))) policy other → (a : ℕ) → other a ≡ picked r a) ⌝ }
+    ensures examples { λ _. ⌜ Worked-examples ⌝ }
 {
     let flags = find_overridden(chart);
     let mut picks = Settlement::none();

@@ -5,7 +5,7 @@ ghost use Rattle.rulings.specs.Ranking.{Ranking};
 ghost use Rattle.rights.specs.Calls.Call.{closing};
 ghost use Rattle.rights.specs.Calls.Reply.{closed};
 ghost use Rattle.rights.specs.Contents.{contents};
-ghost use Rattle.rights.specs.Faults.{replied};
+ghost use Rattle.rights.specs.Faults.{replied, tells-draft};
 ghost use Rattle.rights.specs.Meaning.{reply, next};
 ghost use Rattle.rights.specs.State.{on-draft};
 use crate::faults::FromDrafts;
@@ -20,11 +20,12 @@ use table::TableFault;
 
 impl Register<'_> {
     // Closes the draft, drops its grants and its reservation, and tells how many grants stood; only its
-    // owner may. Costs a pass over the drafts and one over the grants.
+    // owner may. Costs two passes over the drafts and one over the grants.
     pub fn close(&mut self, draft: u16, caller: u16) -> Result<u16, RegisterFault>
         ensures told { λ r. ⌜ ((R : Ranking) → replied closed r ≡ reply R (contents (now (self .entry))) (closing draft caller)) ⌝ }
         ensures left { λ _. ⌜ ((R : Ranking) → contents (now (self .exit)) ≡ next R (contents (now (self .entry))) (closing draft caller)) ⌝ }
         ensures same { λ r. ⌜ (isOk r ≡ false → now (self .exit) ≡ now (self .entry)) ⌝ }
+        ensures about { λ r. ⌜ tells-draft draft r ⌝ }
     {
         account_in_range(caller)?;
         let Some(found) = self.drafts.find(draft) else {

@@ -6,7 +6,7 @@ ghost use Rattle.rulings.specs.Ranking.{Ranking};
 ghost use Rattle.rights.specs.Calls.Call.{opening};
 ghost use Rattle.rights.specs.Calls.Reply.{done};
 ghost use Rattle.rights.specs.Contents.{contents};
-ghost use Rattle.rights.specs.Faults.{refused-by, replied};
+ghost use Rattle.rights.specs.Faults.{refused-by, replied, tells-draft};
 ghost use Rattle.rights.specs.Meaning.{reply, next};
 ghost use Rattle.rights.specs.Refusals.{refusal};
 ghost use Rattle.rights.specs.State.{reserved};
@@ -22,7 +22,8 @@ use crate::register::checks::policy_known;
 use rulings::Ruling;
 
 impl Register<'_> {
-    // Opens a draft for its owner and reserves its cells until it is closed. Costs a pass over the drafts.
+    // Opens a draft for its owner and reserves its cells until it is closed. Costs two passes over
+    // the drafts.
     pub fn open<R: Ruling>(
         &mut self,
         ruling: &R,
@@ -34,6 +35,7 @@ impl Register<'_> {
         ensures told { λ r. ⌜ replied (λ _. done) r ≡ reply (ranking (now (ruling .entry))) (contents (now (self .entry))) (opening draft owner policy cells) ⌝ }
         ensures left { λ _. ⌜ contents (now (self .exit)) ≡ next (ranking (now (ruling .entry))) (contents (now (self .entry))) (opening draft owner policy cells) ⌝ }
         ensures same { λ r. ⌜ (isOk r ≡ false → now (self .exit) ≡ now (self .entry)) ⌝ }
+        ensures about { λ r. ⌜ tells-draft draft r ⌝ }
     {
         self.may_open(ruling, draft, owner, policy, cells)?;
         let opened = DraftRecord {
@@ -55,7 +57,8 @@ impl Register<'_> {
         policy: u8,
         cells: u16,
     ) -> Result<(), RegisterFault>
-        ensures { λ r. ⌜ refused-by r ≡ refusal (ranking (now (ruling .entry))) (contents (now (self .entry))) (opening draft owner policy cells) ⌝ }
+        ensures refused { λ r. ⌜ refused-by r ≡ refusal (ranking (now (ruling .entry))) (contents (now (self .entry))) (opening draft owner policy cells) ⌝ }
+        ensures about { λ r. ⌜ tells-draft draft r ⌝ }
     {
         account_in_range(owner)?;
         policy_known(ruling, policy)?;

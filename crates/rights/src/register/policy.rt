@@ -5,7 +5,7 @@ ghost use Rattle.rulings.specs.Ranking.{Ranking};
 ghost use Rattle.rights.specs.Calls.Call.{policing};
 ghost use Rattle.rights.specs.Calls.Reply.{done};
 ghost use Rattle.rights.specs.Contents.{contents};
-ghost use Rattle.rights.specs.Faults.{replied};
+ghost use Rattle.rights.specs.Faults.{replied, tells-draft};
 ghost use Rattle.rights.specs.Meaning.{reply, next};
 use crate::faults::FromDrafts;
 use crate::faults::RegisterFault;
@@ -18,7 +18,7 @@ use rulings::Ruling;
 use table::TableFault;
 
 impl Register<'_> {
-    // Sets the draft's policy; only its owner may. Costs a pass over the drafts.
+    // Sets the draft's policy; only its owner may. Costs two passes over the drafts up to it.
     pub fn policy<R: Ruling>(
         &mut self,
         ruling: &R,
@@ -29,6 +29,7 @@ impl Register<'_> {
         ensures told { λ r. ⌜ replied (λ _. done) r ≡ reply (ranking (now (ruling .entry))) (contents (now (self .entry))) (policing draft caller policy) ⌝ }
         ensures left { λ _. ⌜ contents (now (self .exit)) ≡ next (ranking (now (ruling .entry))) (contents (now (self .entry))) (policing draft caller policy) ⌝ }
         ensures same { λ r. ⌜ (isOk r ≡ false → now (self .exit) ≡ now (self .entry)) ⌝ }
+        ensures about { λ r. ⌜ tells-draft draft r ⌝ }
     {
         account_in_range(caller)?;
         policy_known(ruling, policy)?;

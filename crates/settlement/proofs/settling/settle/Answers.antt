@@ -3,11 +3,16 @@ use Prim.Native.Nat.{ℕ, suc, _+_, _-_}
 use native.Mathlib.Numerals.{add-one}
 use native.Mathlib.Omega.{arith}
 use lib.ListN.{length}
+use Rattle.settlement.specs.Examples.{Worked-examples}
 use Rattle.settlement.specs.Picked.{picked}
 use Rattle.settlement.specs.Picking.{rounds, settled}
 use Rattle.settlement.proofs.Rounds.{repicked-same, rounds-stay}
 use Rattle.settlement.proofs.Unique.{are-settled, are-the-only}
 use Rattle.settlement.proofs.settling.settle.Needs as need
+
+-- by computing
+worked-examples : Worked-examples
+worked-examples = refl
 
 pub loop-n-holds : need.loop-n-holds
 loop-n-holds g c = c .none-picks .ensures
@@ -41,6 +46,7 @@ returns-then-same g c =
       value = computed;
       settled = are-settled lines signs owner R (g .R·Ruling .laws (c .args .ruling .now)) p picks computed;
       only = are-the-only lines signs owner R (g .R·Ruling .laws (c .args .ruling .now)) p picks computed;
+      examples = worked-examples;
     }
 
 pub returns : need.returns
@@ -58,4 +64,5 @@ returns g c =
       value = computed;
       settled = are-settled lines signs owner R (g .R·Ruling .laws (c .args .ruling .now)) p picks computed;
       only = are-the-only lines signs owner R (g .R·Ruling .laws (c .args .ruling .now)) p picks computed;
+      examples = worked-examples;
     }

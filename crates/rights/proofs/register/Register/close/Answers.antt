@@ -39,6 +39,7 @@ returns c =
       told = λ R. ap closed (omega (arith, dropped .value, ap length (dropped .used), length-kept-by (on-draft d) (s .grants), length-kept-by-both (on-draft d) (λ g. not (on-draft d g)) (λ _. refl) (s .grants))) ∙ obeyed-reply R s call (none R);
       left = λ R. same-state (removed .room) (dropped .room) (removed .used) (dropped .used) ∙ obeyed-next R s call (none R);
       same = λ e. absurd (true≢false e);
+      about = tt;
     }
 
 pub cast-result : need.cast-result

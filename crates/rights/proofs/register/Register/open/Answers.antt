@@ -17,7 +17,7 @@ ghost-self g c =
     let R = g .R·Ruling .ranking (c .args .ruling .now) in
     let was = c .args .self .now in
     let opened : DraftRecord = record { draft = c .args .draft; owner = c .args .owner; policy = c .args .policy; cells = c .args .cells; last = 0 } in
-    let fits = opening-fits R (contents was) (c .args .draft) (c .args .owner) (c .args .policy) (c .args .cells) (sym (c .in-Continue-may-open .ensures tt)) in
+    let fits = opening-fits R (contents was) (c .args .draft) (c .args .owner) (c .args .policy) (c .args .cells) (sym (c .in-Continue-may-open .ensures tt .refused)) in
     let added = reserved-added (isOk (c .add .result)) (used (was .drafts)) opened in
     (omega (arith, c .add .ensures .room, was .«places_few»), (was .«cells_few», (omega (arith, fits, added, ap reserved (c .add .ensures .used)), tt)))
 
@@ -26,9 +26,10 @@ returns g c =
     let R = g .R·Ruling .ranking (c .args .ruling .now) in
     let s = contents (c .args .self .now) in
     let call = opening (c .args .draft) (c .args .owner) (c .args .policy) (c .args .cells) in
-    let none = sym (c .in-Continue-may-open .ensures tt) in
+    let none = sym (c .in-Continue-may-open .ensures tt .refused) in
     record {
       told = obeyed-reply R s call none;
       left = same-state (c .in-Continue-add .ensures tt .room) refl (c .in-Continue-add .ensures tt .used) refl ∙ obeyed-next R s call none;
       same = λ e. absurd (true≢false e);
+      about = tt;
     }

@@ -36,4 +36,5 @@ returns g c =
       told = obeyed-reply R s call none;
       left = same-state (replaced .room) refl (replaced .used ∙ ap (λ o. with-policy (c .args .draft) (c .args .policy) o (s .drafts)) (sym found)) refl ∙ obeyed-next R s call none;
       same = λ e. absurd (true≢false e);
+      about = tt;
     }
