@@ -29,7 +29,7 @@ impl Register<'_> {
     {
         account_in_range(caller)?;
         let Some(found) = self.drafts.find(draft) else {
-            return Err(RegisterFault::Draft(TableFault::Absent(draft)));
+            return Err(RegisterFault::from(TableFault::Absent(draft)));
         };
         if found.owner != caller {
             return Err(RegisterFault::NotOwner);

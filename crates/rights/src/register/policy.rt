@@ -34,7 +34,7 @@ impl Register<'_> {
         account_in_range(caller)?;
         policy_known(ruling, policy)?;
         let Some(found) = self.drafts.find(draft) else {
-            return Err(RegisterFault::Draft(TableFault::Absent(draft)));
+            return Err(RegisterFault::from(TableFault::Absent(draft)));
         };
         if found.owner != caller {
             return Err(RegisterFault::NotOwner);
