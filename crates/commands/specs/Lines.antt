@@ -12,7 +12,7 @@ use Rattle.rights.specs.declared.faults.RegisterFault.{RegisterFault}
 use Rattle.rights.specs.declared.faults.Layer.{Layer}
 use Rattle.rights.specs.declared.faults.Layer.the-variants.{Table, Register}
 use Rattle.rights.specs.Calls.{Reply}
-use Rattle.rights.specs.Calls.Reply.{refused, done, closed}
+use Rattle.rights.specs.Calls.Reply.{refused, done, closed, permitted, denied, undecided}
 use Rattle.rights.specs.Faults.{number, layer-of-row}
 use Rattle.commands.specs.declared.faults.StreamFault.{StreamFault}
 use Rattle.commands.specs.declared.faults.StreamFault.the-variants.{ShortBuffer, Unread, Register as OfRegister}
@@ -58,6 +58,9 @@ answer (Err f) = refused (stream-number f)
 abbrev pub words : Reply → List ℕ
 words done = codes "done"
 words (closed n) = codes "closed " ++ decimal n
+words (permitted a) = codes "permitted " ++ decimal a
+words (denied a) = codes "denied " ++ decimal a
+words undecided = codes "undecided"
 words (refused n) = codes "refused " ++ (decimal n ++ (codes " " ++ layer-word n))
 
 -- the line of a reply to the command at a position

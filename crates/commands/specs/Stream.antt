@@ -8,7 +8,7 @@ use Rattle.std.specs.declared.result.Result.{Result}
 use Rattle.std.specs.declared.result.Result.the-variants.{Ok, Err}
 use Rattle.rulings.specs.Ranking.{Ranking}
 use Rattle.rights.specs.Calls.{Call, Reply}
-use Rattle.rights.specs.Calls.Reply.{refused, done, closed}
+use Rattle.rights.specs.Calls.Reply.{refused, done, closed, permitted, denied, undecided}
 use Rattle.rights.specs.Meaning.{reply, next}
 use Rattle.rights.specs.State.{State}
 use Rattle.commands.specs.Format.{Parsed, parsed}
@@ -49,6 +49,9 @@ abbrev pub is-refused : Reply → Bool
 is-refused (refused n) = true
 is-refused done = false
 is-refused (closed n) = false
+is-refused (permitted a) = false
+is-refused (denied a) = false
+is-refused undecided = false
 
 -- at most n commands of the stream from a position on, each with its position
 abbrev pub commands-from : ℕ → List ℕ → ℕ → List (ℕ × Parsed)

@@ -12,13 +12,14 @@ use Rattle.table.specs.declared.TableFault.the-variants.{Absent, Present, Full}
 use Rattle.rights.specs.declared.faults.Layer.{Layer}
 use Rattle.rights.specs.declared.faults.Layer.the-variants.{Table, Register}
 use Rattle.rights.specs.declared.faults.RegisterFault.{RegisterFault}
-use Rattle.rights.specs.declared.faults.RegisterFault.the-variants.{AccountTooLarge, PolicyUnknown, CellsOutOfRange, Draft, NoCellsLeft, NotOwner}
+use Rattle.rights.specs.declared.faults.RegisterFault.the-variants.{AccountTooLarge, RightTooLarge, PolicyUnknown, CellsOutOfRange, Draft, NoCellsLeft, NotOwner}
 use Rattle.rights.specs.Calls.{Reply}
 use Rattle.rights.specs.Calls.Reply.{refused}
 
 -- each fault's row of the refusal table
 abbrev pub number : RegisterFault → ℕ
 number AccountTooLarge = 1
+number RightTooLarge = 2
 number PolicyUnknown = 4
 number CellsOutOfRange = 5
 number (Draft (Absent d)) = 6
@@ -44,6 +45,7 @@ replied told (Err f) = refused (number f)
 -- a fault of the table of drafts tells the draft d
 abbrev pub key-told : ℕ → RegisterFault → Type 0
 key-told d AccountTooLarge = Unit {0}
+key-told d RightTooLarge = Unit {0}
 key-told d PolicyUnknown = Unit {0}
 key-told d CellsOutOfRange = Unit {0}
 key-told d (Draft (Absent k)) = k ≡ d

@@ -13,6 +13,7 @@ pub enum Layer {
 #[derive(Clone, Copy)]
 pub enum RegisterFault {
     AccountTooLarge,
+    RightTooLarge,
     PolicyUnknown,
     CellsOutOfRange,
     Draft(TableFault<u16>),
@@ -34,6 +35,7 @@ impl RegisterFault {
     {
         match self {
             RegisterFault::AccountTooLarge => 1,
+            RegisterFault::RightTooLarge => 2,
             RegisterFault::PolicyUnknown => 4,
             RegisterFault::CellsOutOfRange => 5,
             RegisterFault::Draft(TableFault::Absent(_)) => 6,

@@ -1,5 +1,7 @@
 // The register of rights on timetable drafts: its records, its calls, and what they refuse.
+mod answers;
 pub mod faults;
+mod grants;
 pub mod records;
 pub mod register;
 

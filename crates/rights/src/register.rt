@@ -9,6 +9,7 @@ use crate::records::DraftRecord;
 use crate::records::GrantRecord;
 use table::Table;
 
+mod answer;
 mod build;
 mod checks;
 mod close;

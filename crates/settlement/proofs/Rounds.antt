@@ -2,6 +2,7 @@
 use mathlib.Core.Path.{_≡_, refl, sym, ap, _∙_}
 use mathlib.Core.List.{List}
 use mathlib.Core.Bool.{Bool, true, false, cond, not, _&&_, _||_}
+use mathlib.Core.Logic.{⊎-elim}
 use Prim.Native.Nat.{ℕ, zero, suc, _+_, _≤_}
 use native.Mathlib.Numerals.{add-one}
 use native.Mathlib.Omega.{arith}
@@ -12,9 +13,12 @@ use Rattle.std.specs.declared.option.Option.the-variants.{Some, None}
 use Rattle.rulings.specs.Ranking.{Ranking}
 use Rattle.charts.specs.declared.chart.Line.{Line}
 use Rattle.charts.specs.declared.chart.Sign.{Sign}
+use Rattle.std.proofs.shelf.Tests.{cases-bool}
+use Rattle.charts.specs.Chains.{Leads}
 use Rattle.charts.specs.Reaching.{between-accounts}
 use Rattle.settlement.specs.Picking.{overridden, may-pass, eligible, better, prefer, best, repicked, rounds, settled}
 use Rattle.settlement.specs.Settled.{Picks}
+use Rattle.settlement.proofs.Eligibility.{eligible-word}
 
 -- one place more in the choice of the best
 pub best-more : (wins : ℕ → ℕ → Bool) (i : ℕ) (passes : ℕ → Bool) (owns : Bool) (held next : Option ℕ) →
@@ -50,3 +54,25 @@ module _ (lines : List (Option Line)) (signs : ℕ → Sign) (owner : ℕ) (R : 
       sym (stays a)
       ∙ repicked-same picks (rounds lines signs owner R p (more + n)) (rounds-stay picks n is stays more) a
       ∙ ap (λ k. rounds lines signs owner R p k a) (let e : suc (more + n) ≡ suc more + n = omega arith in e)
+
+-- nothing is picked where nothing passes
+best-nobody : (wins : ℕ → ℕ → Bool) (n : ℕ) (passes : ℕ → Bool) → ((i : ℕ) → passes i ≡ false) → best wins n passes ≡ None
+best-nobody wins zero passes none = refl
+best-nobody wins (suc i) passes none =
+    ap (λ t. cond t (prefer wins i (best wins i passes)) (best wins i passes)) (none i) ∙ best-nobody wins i passes none
+
+neither : (b : Bool) → _≡_ {A = Option ℕ} (cond b None None) None
+neither true = refl
+neither false = refl
+
+-- an account that no line leads to has no pick
+pub unnamed-none : (lines : List (Option Line)) (signs : ℕ → Sign) (owner : ℕ) (R : Ranking) (p a : ℕ) → ((at from : ℕ) → Leads lines at from a → ⊥) → settled lines signs owner R p a ≡ None
+unnamed-none lines signs owner R p a unnamed =
+    ap (λ o. cond (eqb a owner) None o)
+    (best-nobody (better lines signs R p) (length lines) (λ at. eligible lines signs owner (rounds lines signs owner R p (length lines)) a (getD lines at None))
+    (λ at.
+    ⊎-elim
+    (λ e. let word = eligible-word lines signs owner (rounds lines signs owner R p (length lines)) a at (getD lines at None) refl e in absurd (unnamed at (word .from) (word .leads)))
+    (λ n. n)
+    (cases-bool (eligible lines signs owner (rounds lines signs owner R p (length lines)) a (getD lines at None)))))
+    ∙ neither (eqb a owner)

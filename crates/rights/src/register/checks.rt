@@ -8,6 +8,7 @@ use crate::faults::RegisterFault;
 use rulings::Ruling;
 use terms::ACCOUNTS;
 use terms::DRAFT_CELLS;
+use terms::RIGHTS;
 
 pub(crate) fn account_in_range(account: u16) -> Result<(), RegisterFault>
     ensures { λ r. ⌜ r ≡ cond (ltb 511 account) (Err RegisterFault.AccountTooLarge) (Ok tt) ⌝ }
@@ -33,6 +34,15 @@ pub(crate) fn cells_in_range(cells: u16) -> Result<(), RegisterFault>
 {
     if cells == 0 || cells > DRAFT_CELLS {
         return Err(RegisterFault::CellsOutOfRange);
+    }
+    Ok(())
+}
+
+pub(crate) fn right_in_range(right: u8) -> Result<(), RegisterFault>
+    ensures { λ r. ⌜ r ≡ cond (ltb 7 right) (Err RegisterFault.RightTooLarge) (Ok tt) ⌝ }
+{
+    if right >= RIGHTS {
+        return Err(RegisterFault::RightTooLarge);
     }
     Ok(())
 }

@@ -1,0 +1,25 @@
+-- The answer to a request as a reply. Assumes nothing.
+use mathlib.Core.List.{List}
+use Prim.Native.Nat.{ℕ}
+use Rattle.std.specs.declared.option.Option.{Option}
+use Rattle.std.specs.declared.option.Option.the-variants.{Some, None}
+use Rattle.charts.specs.declared.chart.Line.{Line}
+use Rattle.charts.specs.Chains.{Leads}
+use Rattle.rights.specs.declared.answers.Decision.{Decision}
+use Rattle.rights.specs.declared.answers.Decision.the-variants.{Permitted, Denied, Undecided}
+use Rattle.rights.specs.Calls.{Reply}
+use Rattle.rights.specs.Calls.Reply.{permitted, denied, undecided}
+
+-- an account that decides, where there is one
+abbrev pub account-or-none : Option ℕ → ℕ
+account-or-none None = 0
+account-or-none (Some a) = a
+
+abbrev pub decided : Decision × Option ℕ → Reply
+decided (Permitted, a) = permitted (account-or-none a)
+decided (Denied, a) = denied (account-or-none a)
+decided (Undecided, a) = undecided
+
+-- some line leads to the account
+abbrev pub Named : List (Option Line) → ℕ → Type 0
+Named lines a = (at : ℕ) × (from : ℕ) × Leads lines at from a
