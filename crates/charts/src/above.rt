@@ -75,8 +75,8 @@ impl Sources {
 }
 
 // For every account the accounts from which a chain leads to it. Costs eight words for each line in each
-// pass, and at most as many passes as the longest chain has lines and one more; two passes do where each
-// line stands behind those that lead to its start.
+// pass; there is at most one pass more than the longest of the shortest chains has lines, and two do where
+// each line stands behind those that lead to its start.
 pub fn all_above<C: Chart>(chart: &C) -> Sources
     ensures { λ r. ⌜ ((a b : ℕ) → Decides (over r a b) (Chain (lines (now (chart .entry))) a b)) ⌝ }
 {

@@ -12,8 +12,8 @@ use crate::chart::Line;
 use terms::ACCOUNTS;
 
 // The accounts that a chain of lines leads to from the start: exactly those. Passes over the lines go on
-// as long as they find an account more, so it costs at most (lines) x (length of the longest chain + 1)
-// steps; where each line stands behind those that lead to its start, two passes do.
+// as long as they find an account more, so it makes at most one pass more than the longest of the shortest
+// chains from the start has lines; two passes do where each line stands behind a shortest chain to its start.
 pub fn search<C: Chart>(chart: &C, start: u16) -> Accounts
     ensures { λ r. ⌜ ((b : ℕ) → Decides (member r b) (Chain (lines (now (chart .entry))) start b)) ⌝ }
 {

@@ -1,7 +1,7 @@
 // Settles or searches a chart again and again, to be timed from outside: measure WHAT LINES STEP ORDER TIMES.
 // WHAT is `search`, or else the chart is settled. The line to an account comes from the account STEP before
-// it, so that chains are 511 / STEP long; a second line to it comes from one further back. ORDER is `backward`
-// where each line stands before those that lead to its start, or else it stands behind them.
+// it, or from account 0, the owner, so that the longest chain has one line more than 510 / STEP; a second line
+// to an account comes from one further back. ORDER is `backward` where the lines stand the other way round.
 use charts::Mark;
 use charts::Marks;
 use charts::search;

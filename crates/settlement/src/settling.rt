@@ -20,8 +20,9 @@ use rulings::Ruling;
 use terms::CELLS;
 
 // For each account but the owner the line that decides. On a chart without circles, under a known policy, the
-// picks are a settled list, and where no account has two lines to another they are the only one. Costs what finding the overridden lines costs, and a
-// step for each line in each round; there are as many rounds as the longest chain has lines, and two more.
+// picks are a settled list, and where no account has two lines to another they are the only one. Costs what
+// finding the overridden lines costs, and in each round a step for each line and each account; there is at
+// most one round more than the longest chain has lines.
 pub fn settle<C: SignedChart, R: Ruling>(
     chart: &C,
     owner: u16,
