@@ -1,4 +1,7 @@
-// Streams run under the house ruling, and what they must write.
+// Streams run under the house ruling, and what they must write; charts, and which lines decide.
+#[cfg(test)]
+mod settling;
+
 #[cfg(test)]
 mod tests {
     use commands::Stepped;
