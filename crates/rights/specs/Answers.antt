@@ -2,7 +2,6 @@
 use mathlib.Core.List.{List}
 use Prim.Native.Nat.{ℕ}
 use Rattle.std.specs.declared.option.Option.{Option}
-use Rattle.std.specs.declared.option.Option.the-variants.{Some, None}
 use Rattle.charts.specs.declared.chart.Line.{Line}
 use Rattle.charts.specs.Chains.{Leads}
 use Rattle.rights.specs.declared.answers.Decision.{Decision}
@@ -10,15 +9,10 @@ use Rattle.rights.specs.declared.answers.Decision.the-variants.{Permitted, Den
 use Rattle.rights.specs.Calls.{Reply}
 use Rattle.rights.specs.Calls.Reply.{permitted, denied, undecided}
 
--- an account that decides, where there is one
-abbrev pub account-or-none : Option ℕ → ℕ
-account-or-none None = 0
-account-or-none (Some a) = a
-
-abbrev pub decided : Decision × Option ℕ → Reply
-decided (Permitted, a) = permitted (account-or-none a)
-decided (Denied, a) = denied (account-or-none a)
-decided (Undecided, a) = undecided
+abbrev pub decided : Decision → Reply
+decided (Permitted a) = permitted a
+decided (Denied a) = denied a
+decided Undecided = undecided
 
 -- some line leads to the account
 abbrev pub Named : List (Option Line) → ℕ → Type 0

@@ -1,7 +1,7 @@
-// What the register answers to a request.
+// What the register answers to a request, with the account whose grant decides.
 #[derive(Clone, Copy)]
 pub enum Decision {
-    Permitted,
-    Denied,
+    Permitted(u16),
+    Denied(u16),
     Undecided,
 }

@@ -37,7 +37,7 @@ impl Register<'_> {
         draft: u16,
         right: u8,
         account: u16,
-    ) -> Result<(Decision, Option<u16>), RegisterFault>
+    ) -> Result<Decision, RegisterFault>
         ensures told { λ r. ⌜ replied decided r ≡ reply (ranking (now (ruling .entry))) (contents (now (self .entry))) (requesting draft right account) ⌝ }
         ensures about { λ r. ⌜ tells-draft draft r ⌝ }
     {
@@ -48,7 +48,7 @@ impl Register<'_> {
         };
         policy_known(ruling, found.policy)?;
         if account == found.owner {
-            return Ok((Decision::Permitted, Some(account)));
+            return Ok(Decision::Permitted(account));
         }
         let grants = self.grants.used();
         let chart = OnRight {
@@ -57,7 +57,7 @@ impl Register<'_> {
             right,
         };
         if !names(&chart, account) {
-            return Ok((Decision::Undecided, None));
+            return Ok(Decision::Undecided);
         }
         let pick = settle(&chart, found.owner, ruling, found.policy).pick(account);
         Ok(decide(&chart, pick))
@@ -79,11 +79,11 @@ fn names<C: Chart>(chart: &C, account: u16) -> bool
 }
 
 // What the picked line decides.
-fn decide<C: SignedChart>(chart: &C, pick: Option<u16>) -> (Decision, Option<u16>)
+fn decide<C: SignedChart>(chart: &C, pick: Option<u16>) -> Decision
     ensures { λ r. ⌜ decided r ≡ by-pick (C·Chart .lines (now (chart .entry))) (signs (now (chart .entry))) pick ⌝ }
 {
     let Some(at) = pick else {
-        return (Decision::Undecided, None);
+        return Decision::Undecided;
     };
     let at = usize::from(at);
     let grantor = match chart.line(at) {
@@ -91,7 +91,7 @@ fn decide<C: SignedChart>(chart: &C, pick: Option<u16>) -> (Decision, Option<u16
         None => 0,
     };
     match chart.sign(at).kind {
-        Kind::Denying => (Decision::Denied, Some(grantor)),
-        _ => (Decision::Permitted, Some(grantor)),
+        Kind::Denying => Decision::Denied(grantor),
+        _ => Decision::Permitted(grantor),
     }
 }

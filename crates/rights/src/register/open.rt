@@ -5,7 +5,7 @@ ghost use Rattle.std.specs.Results.{isOk};
 ghost use Rattle.rulings.specs.Ranking.{Ranking};
 ghost use Rattle.rights.specs.Calls.Call.{opening};
 ghost use Rattle.rights.specs.Calls.Reply.{done};
-ghost use Rattle.rights.specs.Contents.{contents};
+ghost use Rattle.rights.specs.Contents.{contents, lent-cells};
 ghost use Rattle.rights.specs.Faults.{refused-by, replied, tells-draft};
 ghost use Rattle.rights.specs.Meaning.{reply, next};
 ghost use Rattle.rights.specs.Refusals.{refusal};
@@ -34,6 +34,7 @@ impl Register<'_> {
     ) -> Result<(), RegisterFault>
         ensures told { λ r. ⌜ replied (λ _. done) r ≡ reply (ranking (now (ruling .entry))) (contents (now (self .entry))) (opening draft owner policy cells) ⌝ }
         ensures left { λ _. ⌜ contents (now (self .exit)) ≡ next (ranking (now (ruling .entry))) (contents (now (self .entry))) (opening draft owner policy cells) ⌝ }
+        ensures cells { λ _. ⌜ lent-cells (now (self .exit)) ≡ lent-cells (now (self .entry)) ⌝ }
         ensures same { λ r. ⌜ (isOk r ≡ false → now (self .exit) ≡ now (self .entry)) ⌝ }
         ensures about { λ r. ⌜ tells-draft draft r ⌝ }
     {

@@ -30,6 +30,7 @@ returns g c =
     record {
       told = obeyed-reply R s call none;
       left = same-state (c .in-Continue-add .ensures tt .room) refl (c .in-Continue-add .ensures tt .used) refl ∙ obeyed-next R s call none;
+      cells = refl;
       same = λ e. absurd (true≢false e);
       about = tt;
     }

@@ -35,6 +35,7 @@ returns g c =
     record {
       told = obeyed-reply R s call none;
       left = same-state (replaced .room) refl (replaced .used ∙ ap (λ o. with-policy (c .args .draft) (c .args .policy) o (s .drafts)) (sym found)) refl ∙ obeyed-next R s call none;
+      cells = refl;
       same = λ e. absurd (true≢false e);
       about = tt;
     }
