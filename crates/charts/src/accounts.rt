@@ -1,4 +1,5 @@
-// A set of accounts, one bit each. Every call costs a step.
+// A set of accounts, one bit each in eight words. What speaks of two sets costs a step for each word, the rest
+// one step.
 ghost use mathlib.Core.Path.{_≡_};
 ghost use mathlib.Core.Bool.{true, false, not, _&&_, _||_};
 ghost use Prim.Native.Nat.{ℕ};

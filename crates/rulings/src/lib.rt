@@ -12,7 +12,7 @@ use terms::Claim;
 use terms::Kind;
 
 // A ruling, by its ranking, which is lawful. `POLICIES` is the number of policies that it knows, from 1
-// to 16.
+// to 16; it binds where `knows` is written with it.
 pub trait Ruling {
     const POLICIES: u8;
 
