@@ -1,3 +1,3 @@
 pub mod Obeyed
-pub mod Reservations
+pub mod Drafts
 pub mod States

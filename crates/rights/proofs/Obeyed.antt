@@ -9,7 +9,8 @@ use Rattle.std.specs.declared.option.Option.{Option}
 use Rattle.std.specs.declared.option.Option.the-variants.{Some, None}
 use Rattle.std.specs.declared.result.Result.{Result}
 use Rattle.std.specs.declared.result.Result.the-variants.{Ok, Err}
-use Rattle.std.proofs.shelf.Tests.{eq-eqb, ne-eqb, ltb-false}
+use Rattle.std.specs.Options.{isSome}
+use Rattle.std.proofs.shelf.Tests.{eq-eqb, ne-eqb, ltb-false, true≢false}
 use Rattle.rulings.specs.Ranking.{Ranking}
 use Rattle.rights.specs.declared.records.DraftRecord.{DraftRecord}
 use Rattle.settlement.specs.Picking.{settled}
@@ -59,6 +60,15 @@ module _ (R : Ranking) (s : State) where
   opening-fits d o p c none =
       let rows = none-holds (refusal-table R s (opening d o p c)) none in
       ltb-false (s .cells) (reserved (s .drafts) + c) (rows .1 .1 .1 .1 .1 .1 .1 .0)
+
+  -- a draft that is opened was not open
+  pub opening-new : (d o p c : ℕ) → refusal R s (opening d o p c) ≡ None → draft-of d s ≡ None
+  opening-new d o p c none =
+      let rows = none-holds (refusal-table R s (opening d o p c)) none in
+      elim (draft-of d s) as (λ o. isSome o ≡ false → o ≡ None) [
+        | Some x ↦ λ e. absurd (true≢false e)
+        | None ↦ λ _. refl
+      ] (rows .1 .1 .1 .1 .1 .0)
 
   module _ (d r a : ℕ) (x : DraftRecord) (found : draft-of d s ≡ Some x) where
     pub requesting-obeyed : ltb 511 a ≡ false → ltb 7 r ≡ false → leb (R .known) (x .policy) ≡ false → refusal R s (requesting d r a) ≡ None

@@ -2,11 +2,11 @@
 use mathlib.Core.Path.{_≡_}
 use mathlib.Core.List.{List, []}
 use mathlib.Core.Bool.{Bool}
-use Prim.Native.Nat.{ℕ}
+use Prim.Native.Nat.{ℕ, _≤_}
 use lib.Dec.{eqb}
 use Rattle.std.specs.declared.option.Option.{Option}
 use Rattle.std.specs.Options.{isSome}
-use Rattle.std.specs.shelf.Lists.{sumBy}
+use Rattle.std.specs.shelf.Lists.{sumBy, countBy}
 use Rattle.table.specs.Used.{first}
 use Rattle.rights.specs.declared.records.DraftRecord.{DraftRecord}
 use Rattle.rights.specs.declared.records.GrantRecord.{GrantRecord}
@@ -33,6 +33,10 @@ is-open d s = isSome (draft-of d s)
 -- the cells that all these drafts reserve
 abbrev pub reserved : List DraftRecord → ℕ
 reserved drafts = sumBy (λ x. x .cells) drafts
+
+-- no number is open twice
+abbrev pub Once : List DraftRecord → Type 0
+Once drafts = (d : ℕ) → countBy (by-draft d) drafts ≤ 1
 
 -- the grant is one on draft d
 abbrev pub on-draft : ℕ → GrantRecord → Bool

@@ -4,7 +4,7 @@
 // leaves everything as it was.
 ghost use Prim.Native.Nat.{_≤_};
 ghost use Rattle.table.specs.Used.{used, room};
-ghost use Rattle.rights.specs.State.{reserved};
+ghost use Rattle.rights.specs.State.{reserved, Once};
 use crate::records::DraftRecord;
 use crate::records::GrantRecord;
 use table::Table;
@@ -23,4 +23,5 @@ pub struct Register<'a> {
     ghost places_few: { room drafts ≤ 256 },
     ghost cells_few: { room grants ≤ 4096 },
     ghost reservations_fit: { reserved (used drafts) ≤ room grants },
+    ghost drafts_once: { Once (used drafts) },
 }

@@ -1,4 +1,4 @@
-use mathlib.Core.Path.{refl, sym, ap, _∙_}
+use mathlib.Core.Path.{refl, sym, ap, subst, _∙_}
 use mathlib.Core.Bool.{not}
 use native.Mathlib.Omega.{arith}
 use lib.ListN.{length}
@@ -10,12 +10,12 @@ use Rattle.table.proofs.Cells.{used-within}
 use Rattle.rulings.specs.Ranking.{Ranking}
 use Rattle.rights.specs.declared.faults.RegisterFault.the-variants.{AccountTooLarge}
 use Rattle.rights.specs.Keys.{by-draft}
-use Rattle.rights.specs.State.{reserved, on-draft}
+use Rattle.rights.specs.State.{reserved, on-draft, Once}
 use Rattle.rights.specs.Contents.{contents}
 use Rattle.rights.specs.Calls.Call.{closing}
 use Rattle.rights.specs.Calls.Reply.{closed}
 use Rattle.rights.proofs.Obeyed.{obeyed-reply, obeyed-next, closing-obeyed, passed}
-use Rattle.rights.proofs.Reservations.{reserved-kept}
+use Rattle.rights.proofs.Drafts.{sum-kept, once-kept}
 use Rattle.rights.proofs.States.{same-state}
 use Rattle.rights.proofs.register.Register.close.Needs as need
 
@@ -23,8 +23,8 @@ pub ghost-self : need.ghost-self
 ghost-self c =
     let was = c .args .self .now in
     let d = c .args .draft in
-    let fewer = reserved-kept (λ x. not (by-draft d x)) (used (was .drafts)) in
-    (omega (arith, c .remove .ensures .room, was .«places_few»), (omega (arith, c .retain-dropped .ensures .room, was .«cells_few»), (omega (arith, fewer, ap reserved (c .remove .ensures .used), c .retain-dropped .ensures .room, was .«reservations_fit»), tt)))
+    let fewer = sum-kept (λ w. w .cells) (λ x. not (by-draft d x)) (used (was .drafts)) in
+    (omega (arith, c .remove .ensures .room, was .«places_few»), (omega (arith, c .retain-dropped .ensures .room, was .«cells_few»), (omega (arith, fewer, ap reserved (c .remove .ensures .used), c .retain-dropped .ensures .room, was .«reservations_fit»), (subst Once (sym (c .remove .ensures .used)) (once-kept (λ x. not (by-draft d x)) (used (was .drafts)) (was .«drafts_once»)), tt))))
 
 pub returns : need.returns
 returns c =

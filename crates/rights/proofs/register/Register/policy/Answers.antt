@@ -1,16 +1,16 @@
-use mathlib.Core.Path.{refl, sym, ap, _∙_}
+use mathlib.Core.Path.{refl, sym, ap, subst, _∙_}
 use native.Mathlib.Omega.{arith}
 use Rattle.std.proofs.shelf.Tests.{true≢false}
 use Rattle.table.specs.Used.{used, first}
 use Rattle.rights.specs.declared.faults.RegisterFault.the-variants.{AccountTooLarge, PolicyUnknown}
 use Rattle.rights.specs.declared.records.DraftRecord.{DraftRecord}
 use Rattle.rights.specs.Keys.{by-draft}
-use Rattle.rights.specs.State.{reserved}
+use Rattle.rights.specs.State.{reserved, Once}
 use Rattle.rights.specs.Contents.{contents}
 use Rattle.rights.specs.Calls.Call.{policing}
 use Rattle.rights.specs.Meaning.{with-policy}
 use Rattle.rights.proofs.Obeyed.{obeyed-reply, obeyed-next, policing-obeyed, passed}
-use Rattle.rights.proofs.Reservations.{reserved-replaced}
+use Rattle.rights.proofs.Drafts.{sum-replaced, once-replaced}
 use Rattle.rights.proofs.States.{same-state}
 use Rattle.rights.proofs.register.Register.policy.Needs as need
 
@@ -19,8 +19,9 @@ ghost-self g c =
     let was = c .args .self .now in
     let x = c .in-Some .found in
     let set : DraftRecord = record { draft = x .draft; owner = x .owner; policy = c .args .policy; cells = x .cells; last = x .last } in
-    let as-much = reserved-replaced (by-draft (c .args .draft)) x set refl (used (was .drafts)) (sym (c .in-Some .ensures tt)) in
-    (omega (arith, c .replace .ensures .room, was .«places_few»), (was .«cells_few», (omega (arith, as-much, ap reserved (c .replace .ensures .used), was .«reservations_fit»), tt)))
+    let as-much = sum-replaced (λ w. w .cells) (by-draft (c .args .draft)) x set refl (used (was .drafts)) (sym (c .in-Some .ensures tt)) in
+    let once = once-replaced (by-draft (c .args .draft)) x set refl (used (was .drafts)) (sym (c .in-Some .ensures tt)) (was .«drafts_once») in
+    (omega (arith, c .replace .ensures .room, was .«places_few»), (was .«cells_few», (omega (arith, as-much, ap reserved (c .replace .ensures .used), was .«reservations_fit»), (subst Once (sym (c .replace .ensures .used)) once, tt))))
 
 pub returns : need.returns
 returns g c =
