@@ -79,3 +79,7 @@ module _ (R : Ranking) (s : State) where
     asked-another other =
         ap (λ t. cond t (permitted a) (by-pick (lines-on d r (s .grants)) (signs-of (s .grants)) (settled (lines-on d r (s .grants)) (signs-of (s .grants)) (x .owner) R (x .policy) a))) (sym (ne-eqb a (x .owner) (λ e. other (sym e))))
         ∙ ap (asked R (s .grants) d r a) (sym found)
+
+    pub answered : ltb 511 a ≡ false → ltb 7 r ≡ false → leb (R .known) (x .policy) ≡ false → (x .owner ≡ a → ⊥) → by-pick (lines-on d r (s .grants)) (signs-of (s .grants)) (settled (lines-on d r (s .grants)) (signs-of (s .grants)) (x .owner) R (x .policy) a) ≡ reply R s (requesting d r a)
+    answered in-range right known other =
+        asked-another other ∙ obeyed-reply (requesting d r a) (requesting-obeyed in-range right known)
