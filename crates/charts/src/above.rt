@@ -74,7 +74,7 @@ impl Sources {
 // pass; there is at most one pass more than the longest of the shortest chains has lines, and two do where
 // each line stands behind those that lead to its start.
 pub fn all_above<C: Chart>(chart: &C) -> Sources
-    ensures { (a b : ℕ) → Decides (over result a b) (Chain (lines chart.now) a b) }
+    ensures { (a b : ℕ) → Decides (over result a b) (Chain (C.lines chart.now) a b) }
 {
     let mut above = Sources::none();
     while climb(chart, &mut above) {}
@@ -83,7 +83,7 @@ pub fn all_above<C: Chart>(chart: &C) -> Sources
 
 // Follows every line once; tells whether an account is new above another.
 fn climb<C: Chart>(chart: &C, above: &mut Sources) -> bool
-    ensures { Passed over Any (lines chart.now) (length (lines chart.now)) above.old above.new result }
+    ensures { Passed over Any (C.lines chart.now) (length (C.lines chart.now)) above.old above.new result }
 {
     let mut grew = false;
     for i in 0..chart.len() {
@@ -94,7 +94,7 @@ fn climb<C: Chart>(chart: &C, above: &mut Sources) -> bool
 
 // For every account the accounts from which one line leads to it. Costs a step for each line.
 pub fn direct_sources<C: Chart>(chart: &C) -> Sources
-    ensures { (a b : ℕ) → Decides (over result a b) ((at : ℕ) × Leads (lines chart.now) at a b) }
+    ensures { (a b : ℕ) → Decides (over result a b) ((at : ℕ) × Leads (C.lines chart.now) at a b) }
 {
     let mut sources = Sources::none();
     for i in 0..chart.len() {

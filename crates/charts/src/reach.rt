@@ -12,7 +12,7 @@ use terms::ACCOUNTS;
 // as long as they find an account more, so it makes at most one pass more than the longest of the shortest
 // chains from the start has lines; two passes do where each line stands behind a shortest chain to its start.
 pub fn reachable<C: Chart>(chart: &C, start: u16) -> Accounts
-    ensures { (b : ℕ) → Decides (member result b) (Chain (lines chart.now) start b) }
+    ensures { (b : ℕ) → Decides (member result b) (Chain (C.lines chart.now) start b) }
 {
     let mut reached = Accounts::none();
     if start >= ACCOUNTS {
@@ -25,7 +25,7 @@ pub fn reachable<C: Chart>(chart: &C, start: u16) -> Accounts
 // Follows every line once; tells whether an account is new.
 fn pass<C: Chart>(chart: &C, start: u16, reached: &mut Accounts) -> bool
     requires { start < 512 }
-    ensures { Passed (reached_from start) (Is start) (lines chart.now) (length (lines chart.now)) reached.old reached.new result }
+    ensures { Passed (reached_from start) (Is start) (C.lines chart.now) (length (C.lines chart.now)) reached.old reached.new result }
 {
     let mut grew = false;
     for i in 0..chart.len() {

@@ -18,8 +18,8 @@ pub(crate) fn obey<R: Ruling>(
     call: Call,
     at: usize,
 ) -> Result<Outcome, StreamFault>
-    ensures told { answer result ≡ by_call (reply (ranking ruling.now) (contents register.old) (call_of call)) }
-    ensures left { contents register.new ≡ next (ranking ruling.now) (contents register.old) (call_of call) }
+    ensures told { answer result ≡ by_call (reply (R.ranking ruling.now) (contents register.old) (call_of call)) }
+    ensures left { contents register.new ≡ next (R.ranking ruling.now) (contents register.old) (call_of call) }
     ensures same { is_ok result ≡ false → register.new ≡ register.old }
     ensures about { TellsPosition at result }
 {

@@ -19,8 +19,8 @@ pub fn run<R: Ruling>(
     ruling: &R,
     input: &[u8],
 ) -> Result<Vec<u8>, AllocError>
-    ensures value { IfOk result (λ v. v.items ≡ lines (ranking ruling.now) (contents register.old) (commands (counted input.now))) }
-    ensures left { contents register.new ≡ (if is_ok result then left_by (ranking ruling.now) (contents register.old) (commands (counted input.now)) else contents register.old) }
+    ensures value { IfOk result (λ v. v.items ≡ lines (R.ranking ruling.now) (contents register.old) (commands (counted input.now))) }
+    ensures left { contents register.new ≡ (if is_ok result then left_by (R.ranking ruling.now) (contents register.old) (commands (counted input.now)) else contents register.old) }
     ensures same { is_ok result ≡ false → register.new ≡ register.old }
     ensures law { Law }
 {

@@ -36,10 +36,10 @@ pub fn step<R: Ruling>(
     at: usize,
     buffer: &mut [u8],
 ) -> Result<Stepped, StreamFault>
-    ensures value { result ≡ told (counted input.now) at (length buffer.old) (line_at (ranking ruling.now) (contents register.old) (counted input.now) at) }
-    ensures line { buffer.new ≡ if_line result (over buffer.old (line_at (ranking ruling.now) (contents register.old) (counted input.now) at)) buffer.old }
-    ensures left { contents register.new ≡ if_line result (carried (ranking ruling.now) (contents register.old) (command_at (counted input.now) at)) (contents register.old) }
-    ensures same { if_line result (is_refused (answered (ranking ruling.now) (contents register.old) (command_at (counted input.now) at))) true ≡ true → register.new ≡ register.old }
+    ensures value { result ≡ told (counted input.now) at (length buffer.old) (line_at (R.ranking ruling.now) (contents register.old) (counted input.now) at) }
+    ensures line { buffer.new ≡ if_line result (over buffer.old (line_at (R.ranking ruling.now) (contents register.old) (counted input.now) at)) buffer.old }
+    ensures left { contents register.new ≡ if_line result (carried (R.ranking ruling.now) (contents register.old) (command_at (counted input.now) at)) (contents register.old) }
+    ensures same { if_line result (is_refused (answered (R.ranking ruling.now) (contents register.old) (command_at (counted input.now) at))) true ≡ true → register.new ≡ register.old }
     ensures bound { line_length result ≤ 32 }
 {
     let end = input.len().min(STREAM);
@@ -62,9 +62,9 @@ fn obey_front<R: Ruling>(
     bytes: &[u8],
     at: usize,
 ) -> (Result<Outcome, StreamFault>, usize)
-    ensures value { answer result.0 ≡ answered (ranking ruling.now) (contents register.old) (parsed bytes.now) }
+    ensures value { answer result.0 ≡ answered (R.ranking ruling.now) (contents register.old) (parsed bytes.now) }
     ensures rest { result.1 ≡ length (rest_of (parsed bytes.now)) }
-    ensures left { contents register.new ≡ carried (ranking ruling.now) (contents register.old) (parsed bytes.now) }
+    ensures left { contents register.new ≡ carried (R.ranking ruling.now) (contents register.old) (parsed bytes.now) }
     ensures same { is_ok result.0 ≡ false → register.new ≡ register.old }
     ensures about { TellsPosition at result.0 }
 {

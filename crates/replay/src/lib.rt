@@ -42,8 +42,8 @@ pub fn replay<R: Ruling>(
     register: &mut Register,
     history: &[Made<R>],
 ) -> Result<Vec<Replied>, AllocError>
-    ensures replies { IfOk result (λ v. map said v.items ≡ replies (contents register.old) (history_of ranking laws history.now)) }
-    ensures left { LeftBy result (contents register.old) (contents register.new) (history_of ranking laws history.now) }
+    ensures replies { IfOk result (λ v. map said v.items ≡ replies (contents register.old) (history_of R.ranking R.laws history.now)) }
+    ensures left { LeftBy result (contents register.old) (contents register.new) (history_of R.ranking R.laws history.now) }
     ensures law { Law }
     ensures examples { WorkedExamples }
 {
@@ -61,8 +61,8 @@ fn make<R: Ruling>(
     ruling: &R,
     step: Step,
 ) -> Result<Replied, AllocError>
-    ensures told { IfOk result (λ p. said p ≡ reply (ranking ruling.now) (contents register.old) (call_made step)) }
-    ensures left { contents register.new ≡ (if is_ok result then next (ranking ruling.now) (contents register.old) (call_made step) else contents register.old) }
+    ensures told { IfOk result (λ p. said p ≡ reply (R.ranking ruling.now) (contents register.old) (call_made step)) }
+    ensures left { contents register.new ≡ (if is_ok result then next (R.ranking ruling.now) (contents register.old) (call_made step) else contents register.old) }
 {
     match step {
         Step::Call(call) => Ok(Replied::Call(register.obey(ruling, call))),

@@ -61,8 +61,8 @@ pub enum Outcome {
 impl Register<'_> {
     // Makes the call.
     pub fn obey<R: Ruling>(&mut self, ruling: &R, call: Call) -> Result<Outcome, RegisterFault>
-        ensures told { replied outcome result ≡ reply (ranking ruling.now) (contents self.old) (call_of call) }
-        ensures left { contents self.new ≡ next (ranking ruling.now) (contents self.old) (call_of call) }
+        ensures told { replied outcome result ≡ reply (R.ranking ruling.now) (contents self.old) (call_of call) }
+        ensures left { contents self.new ≡ next (R.ranking ruling.now) (contents self.old) (call_of call) }
         ensures same { is_ok result ≡ false → self.new ≡ self.old }
         ensures about { TellsOf call result }
     {

@@ -46,7 +46,7 @@ fn candidate<C: SignedChart>(
     at: usize,
 ) -> Option<u16>
     requires { at < 4096 }
-    ensures { Candidate (C.Chart.lines chart.now) (signs chart.now) owner (picked picks.now) (slice_index_or flags.now at false) (slice_index_or (C.Chart.lines chart.now) at None) result }
+    ensures { Candidate (C.Chart.lines chart.now) (C.signs chart.now) owner (picked picks.now) (slice_index_or flags.now at false) (slice_index_or (C.Chart.lines chart.now) at None) result }
 {
     let Some(line) = chart.line(at) else {
         return None;
@@ -62,7 +62,7 @@ fn candidate<C: SignedChart>(
 
 // Whether the account with this pick may pass the right on.
 fn may_pass<C: SignedChart>(chart: &C, pick: Option<u16>) -> bool
-    ensures { result ≡ may_pass (signs chart.now) pick }
+    ensures { result ≡ may_pass (C.signs chart.now) pick }
 {
     match pick {
         None => false,
@@ -99,7 +99,7 @@ fn stays<C: SignedChart, R: Ruling>(
     held: Option<u16>,
     at: usize,
 ) -> bool
-    ensures { prefer (better (C.Chart.lines chart.now) (signs chart.now) (ranking ruling.now) policy) at held ≡ (if result then held else Some at) }
+    ensures { prefer (better (C.Chart.lines chart.now) (C.signs chart.now) (R.ranking ruling.now) policy) at held ≡ (if result then held else Some at) }
 {
     match held {
         None => false,
@@ -114,7 +114,7 @@ fn wins<C: SignedChart, R: Ruling>(
     at: usize,
     held: usize,
 ) -> bool
-    ensures { result ≡ better (C.Chart.lines chart.now) (signs chart.now) (ranking ruling.now) policy at held }
+    ensures { result ≡ better (C.Chart.lines chart.now) (C.signs chart.now) (R.ranking ruling.now) policy at held }
 {
     let new = claim(chart, at);
     let old = claim(chart, held);
@@ -122,7 +122,7 @@ fn wins<C: SignedChart, R: Ruling>(
 }
 
 fn claim<C: SignedChart>(chart: &C, at: usize) -> Claim
-    ensures { result ≡ claim_at (C.Chart.lines chart.now) (signs chart.now) at }
+    ensures { result ≡ claim_at (C.Chart.lines chart.now) (C.signs chart.now) at }
 {
     let sign = chart.sign(at);
     let grantor = match chart.line(at) {

@@ -10,7 +10,7 @@ use terms::CELLS;
 
 // A flag for each line between accounts. Costs what `all_above` costs, and eight words for each line.
 pub(crate) fn find_overridden<C: Chart>(chart: &C) -> [bool; CELLS]
-    ensures { (at : ℕ) (l : ChartLine) → slice_index_or (lines chart.now) at None ≡ Some l → between_accounts l ≡ true → slice_index_or result at false ≡ overridden (lines chart.now) l }
+    ensures { (at : ℕ) (l : ChartLine) → slice_index_or (C.lines chart.now) at None ≡ Some l → between_accounts l ≡ true → slice_index_or result at false ≡ overridden (C.lines chart.now) l }
 {
     let above = all_above(chart);
     let direct = direct_sources(chart);

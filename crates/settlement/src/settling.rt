@@ -26,9 +26,9 @@ pub fn settle<C: SignedChart, R: Ruling>(
     ruling: &R,
     policy: u8,
 ) -> Settlement
-    ensures value { (a : ℕ) → picked result a ≡ settled (C.Chart.lines chart.now) (signs chart.now) owner (ranking ruling.now) policy a }
-    ensures settled { NoCircle (C.Chart.lines chart.now) → policy < (ranking ruling.now).known → Settled (C.Chart.lines chart.now) (signs chart.now) owner (ranking ruling.now) policy (picked result) }
-    ensures only { NoCircle (C.Chart.lines chart.now) → OneEach (C.Chart.lines chart.now) → policy < (ranking ruling.now).known → (other : Picks) → Settled (C.Chart.lines chart.now) (signs chart.now) owner (ranking ruling.now) policy other → (a : ℕ) → other a ≡ picked result a }
+    ensures value { (a : ℕ) → picked result a ≡ settled (C.Chart.lines chart.now) (C.signs chart.now) owner (R.ranking ruling.now) policy a }
+    ensures settled { NoCircle (C.Chart.lines chart.now) → policy < (R.ranking ruling.now).known → Settled (C.Chart.lines chart.now) (C.signs chart.now) owner (R.ranking ruling.now) policy (picked result) }
+    ensures only { NoCircle (C.Chart.lines chart.now) → OneEach (C.Chart.lines chart.now) → policy < (R.ranking ruling.now).known → (other : Picks) → Settled (C.Chart.lines chart.now) (C.signs chart.now) owner (R.ranking ruling.now) policy other → (a : ℕ) → other a ≡ picked result a }
     ensures examples { WorkedExamples }
 {
     let flags = find_overridden(chart);

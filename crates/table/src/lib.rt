@@ -4,7 +4,7 @@
 // Contracts speak of the list of records in use and of all cells: those beyond what a call names keep
 // what they held. Whatever looks for a key or removes costs one pass over the records in use, the rest
 // a step.
-ghost use Rattle.std.specs.Prelude.{◌≡◌, ◌+◌, ◌<◌, ◌≤◌, Bool, not, [], ◌∷◌, ◌++◌, length, take, drop, is_some, IfSome, is_ok, if◌then◌else◌, Ok, Err, filter, slice_set};
+ghost use Rattle.std.specs.Prelude.{◌≡◌, ◌+◌, ◌<◌, ◌≤◌, Bool, not, [], ◌∷◌, ◌++◌, length, take, drop, is_some, IfSome, is_ok, cond, if◌then◌else◌, Ok, Err, filter, slice_set};
 ghost use Rattle.table.specs.Used.{cells, room, used, roomy, first, replaced, place};
 
 // A record that goes by a key.
@@ -66,7 +66,7 @@ impl<'a, R: Record> Table<'a, R> {
 
     // The first record with that key.
     pub fn find(&self, key: R::Key) -> Option<R>
-        ensures { result ≡ first (λ x. has x key) (used self.now) }
+        ensures { result ≡ first (λ x. R.has x key) (used self.now) }
     {
         let records = self.used();
         match position(records, key) {
@@ -76,7 +76,7 @@ impl<'a, R: Record> Table<'a, R> {
     }
 
     pub fn refuse_present(&self, key: R::Key) -> Result<(), TableFault<R::Key>>
-        ensures { result ≡ (if is_some (first (λ x. has x key) (used self.now)) then Err (TableFault.Present key) else Ok tt) }
+        ensures { result ≡ (if is_some (first (λ x. R.has x key) (used self.now)) then Err (TableFault.Present key) else Ok tt) }
     {
         match self.find(key) {
             Some(_) => Err(TableFault::Present(key)),
@@ -112,8 +112,8 @@ impl<'a, R: Record> Table<'a, R> {
 
     // Another record in the place of the first with that key.
     pub fn replace(&mut self, key: R::Key, item: R) -> Result<(), TableFault<R::Key>>
-        ensures value { result ≡ (if is_some (first (λ x. has x key) (used self.old)) then Ok tt else Err (TableFault.Absent key)) }
-        ensures used { used self.new ≡ replaced (λ x. has x key) item (used self.old) }
+        ensures value { result ≡ (if is_some (first (λ x. R.has x key) (used self.old)) then Ok tt else Err (TableFault.Absent key)) }
+        ensures used { used self.new ≡ replaced (λ x. R.has x key) item (used self.old) }
         ensures cells { cells self.new ≡ used self.new ++ drop (length (used self.old)) (cells self.old) }
         ensures room { room self.new ≡ room self.old }
     {
@@ -127,7 +127,7 @@ impl<'a, R: Record> Table<'a, R> {
     // Only the records that the rule keeps, in their order; tells how many went.
     pub fn retain<K: Retain<R>>(&mut self, rule: &K) -> usize
         ensures value { result + length (used self.new) ≡ length (used self.old) }
-        ensures used { used self.new ≡ filter (stays rule.now) (used self.old) }
+        ensures used { used self.new ≡ filter (K.stays rule.now) (used self.old) }
         ensures cells { cells self.new ≡ used self.new ++ drop (length (used self.new)) (cells self.old) }
         ensures room { room self.new ≡ room self.old }
     {
@@ -139,8 +139,8 @@ impl<'a, R: Record> Table<'a, R> {
 
     // No record with that key any more; refuses where there is none.
     pub fn remove(&mut self, key: R::Key) -> Result<(), TableFault<R::Key>>
-        ensures value { result ≡ (if is_some (first (λ x. has x key) (used self.old)) then Ok tt else Err (TableFault.Absent key)) }
-        ensures used { used self.new ≡ filter (λ x. not (has x key)) (used self.old) }
+        ensures value { result ≡ (if is_some (first (λ x. R.has x key) (used self.old)) then Ok tt else Err (TableFault.Absent key)) }
+        ensures used { used self.new ≡ filter (λ x. not (R.has x key)) (used self.old) }
         ensures cells { cells self.new ≡ used self.new ++ drop (length (used self.new)) (cells self.old) }
         ensures room { room self.new ≡ room self.old }
     {
@@ -167,7 +167,7 @@ impl<R: Record> Retain<R> for Others<R::Key> {
 
 // The place of the first record with that key.
 fn position<R: Record>(records: &[R], key: R::Key) -> Option<usize>
-    ensures value { result ≡ place (λ x. has x key) records.now }
+    ensures value { result ≡ place (λ x. R.has x key) records.now }
     ensures bound { IfSome result (λ i. i < length records.now) }
 {
     for (i, record) in records.iter().enumerate() {
@@ -188,8 +188,8 @@ fn put<R: Copy>(cells: &mut [R], at: usize, item: R)
 // Moves those of the first `len` records that the rule keeps to the front, and tells how many they are.
 fn compact<R: Copy, K: Retain<R>>(cells: &mut [R], len: usize, rule: &K) -> usize
     requires { len ≤ length cells.old }
-    ensures value { result ≡ length (filter (stays rule.now) (take len cells.old)) }
-    ensures after { cells.new ≡ filter (stays rule.now) (take len cells.old) ++ drop result cells.old }
+    ensures value { result ≡ length (filter (K.stays rule.now) (take len cells.old)) }
+    ensures after { cells.new ≡ filter (K.stays rule.now) (take len cells.old) ++ drop result cells.old }
 {
     let mut stay = 0;
     for i in 0..len {

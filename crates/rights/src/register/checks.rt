@@ -17,7 +17,7 @@ pub(crate) fn account_in_range(account: u16) -> Result<(), RegisterFault>
 }
 
 pub(crate) fn policy_known<R: Ruling>(ruling: &R, policy: u8) -> Result<(), RegisterFault>
-    ensures { result ≡ (if nat_le (ranking ruling.now).known policy then Err RegisterFault.PolicyUnknown else Ok tt) }
+    ensures { result ≡ (if nat_le (R.ranking ruling.now).known policy then Err RegisterFault.PolicyUnknown else Ok tt) }
 {
     if ruling.knows(policy) {
         Ok(())

@@ -25,8 +25,8 @@ impl Register<'_> {
         policy: u8,
         cells: u16,
     ) -> Result<(), RegisterFault>
-        ensures told { replied (λ _. done) result ≡ reply (ranking ruling.now) (contents self.old) (opening draft owner policy cells) }
-        ensures left { contents self.new ≡ next (ranking ruling.now) (contents self.old) (opening draft owner policy cells) }
+        ensures told { replied (λ _. done) result ≡ reply (R.ranking ruling.now) (contents self.old) (opening draft owner policy cells) }
+        ensures left { contents self.new ≡ next (R.ranking ruling.now) (contents self.old) (opening draft owner policy cells) }
         ensures cells { lent_cells self.new ≡ lent_cells self.old }
         ensures same { is_ok result ≡ false → self.new ≡ self.old }
         ensures about { TellsDraft draft result }
@@ -51,7 +51,7 @@ impl Register<'_> {
         policy: u8,
         cells: u16,
     ) -> Result<(), RegisterFault>
-        ensures refused { refused_by result ≡ refusal (ranking ruling.now) (contents self.now) (opening draft owner policy cells) }
+        ensures refused { refused_by result ≡ refusal (R.ranking ruling.now) (contents self.now) (opening draft owner policy cells) }
         ensures about { TellsDraft draft result }
     {
         account_in_range(owner)?;

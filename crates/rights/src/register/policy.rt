@@ -22,8 +22,8 @@ impl Register<'_> {
         caller: u16,
         policy: u8,
     ) -> Result<(), RegisterFault>
-        ensures told { replied (λ _. done) result ≡ reply (ranking ruling.now) (contents self.old) (policing draft caller policy) }
-        ensures left { contents self.new ≡ next (ranking ruling.now) (contents self.old) (policing draft caller policy) }
+        ensures told { replied (λ _. done) result ≡ reply (R.ranking ruling.now) (contents self.old) (policing draft caller policy) }
+        ensures left { contents self.new ≡ next (R.ranking ruling.now) (contents self.old) (policing draft caller policy) }
         ensures cells { lent_cells self.new ≡ lent_cells self.old }
         ensures same { is_ok result ≡ false → self.new ≡ self.old }
         ensures about { TellsDraft draft result }

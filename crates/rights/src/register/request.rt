@@ -33,8 +33,8 @@ impl Register<'_> {
         right: u8,
         account: u16,
     ) -> Result<(Decision, Option<u16>), RegisterFault>
-        ensures told { replied decided result ≡ reply (ranking ruling.now) (contents self.now) (requesting draft right account) }
-        ensures settled { AnswersByTheList (contents self.now) (ranking ruling.now) draft right account (replied decided result) }
+        ensures told { replied decided result ≡ reply (R.ranking ruling.now) (contents self.now) (requesting draft right account) }
+        ensures settled { AnswersByTheList (contents self.now) (R.ranking ruling.now) draft right account (replied decided result) }
         ensures about { TellsDraft draft result }
     {
         account_in_range(account)?;
@@ -49,7 +49,7 @@ impl Register<'_> {
         draft: u16,
         right: u8,
     ) -> Result<DraftRecord, RegisterFault>
-        ensures refused { refused_by result ≡ topmost (rows_of_asking (ranking ruling.now) (contents self.now) draft right) }
+        ensures refused { refused_by result ≡ topmost (rows_of_asking (R.ranking ruling.now) (contents self.now) draft right) }
         ensures found { FoundDraft (contents self.now) draft result }
         ensures about { TellsDraft draft result }
     {
@@ -70,7 +70,7 @@ impl Register<'_> {
         account: u16,
         found: &DraftRecord,
     ) -> (Decision, Option<u16>)
-        ensures { result ≡ answer (ranking ruling.now) found.now (of_right draft right (contents self.now).grants) account }
+        ensures { result ≡ answer (R.ranking ruling.now) found.now (of_right draft right (contents self.now).grants) account }
     {
         if account == found.owner {
             return (Decision::Permitted, Some(account));

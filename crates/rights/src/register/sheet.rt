@@ -30,7 +30,7 @@ impl Register<'_> {
         right: u8,
         buffer: &mut [u8],
     ) -> Result<usize, RegisterFault>
-        ensures told { replied (λ n. listed n buffer.new) result ≡ reply (ranking ruling.now) (contents self.now) (listing draft right buffer.old) }
+        ensures told { replied (λ n. listed n buffer.new) result ≡ reply (R.ranking ruling.now) (contents self.now) (listing draft right buffer.old) }
         ensures same { is_ok result ≡ false → buffer.new ≡ buffer.old }
         ensures about { TellsDraft draft result }
     {
@@ -54,7 +54,7 @@ impl Register<'_> {
     ) -> usize
         requires { 10240 ≤ length page.old }
         ensures bound { result ≤ 10240 }
-        ensures after { Holds page.old (sheet (ranking ruling.now) found.now (of_right draft right (contents self.now).grants)) result page.new }
+        ensures after { Holds page.old (sheet (R.ranking ruling.now) found.now (of_right draft right (contents self.now).grants)) result page.new }
     {
         let gathered = gather(self.grants.used(), draft, right);
         let marks = gathered.marks();

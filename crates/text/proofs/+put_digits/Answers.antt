@@ -16,8 +16,8 @@ returns-then-value-lt10 t c =
           (c.put.ensures.after fits base front held);
     }
 
-pub put-digits-last-requires : goal.put-digits-last-requires
-put-digits-last-requires t c = (omega (arith, c.decreases), omega (arith, one_digit_more c.args.value c.if-value-lt10.false (omega arith)))
+pub put_digits-last-requires : goal.put_digits-last-requires
+put_digits-last-requires t c = (omega (arith, c.decreases), omega (arith, one_digit_more c.args.value c.if-value-lt10.false (omega arith)))
 
 pub returns : goal.returns
 returns t c =
@@ -25,10 +25,10 @@ returns t c =
     let digit = (48 + c.args.value % 10) ∷ [] in
     let step = decimal_step c.args.value c.if-value-lt10.false (omega arith) in
     let count = one_digit_more c.args.value c.if-value-lt10.false (omega arith) in
-    let fits : c.put-digits-last.result + 1 ≤ length c.put-digits-last.new.buffer = omega arith in
+    let fits : c.put_digits-last.result + 1 ≤ length c.put_digits-last.new.buffer = omega arith in
     record {
       value = omega (arith, c.put-2.ensures.value fits);
       after = λ base front held.
           holds_same (append_assoc front front_digits digit ∙ ap (λ d. front ++ d) (sym step))
-          (c.put-2.ensures.after fits base (front ++ front_digits) (c.put-digits-last.ensures.after base front held));
+          (c.put-2.ensures.after fits base (front ++ front_digits) (c.put_digits-last.ensures.after base front held));
     }

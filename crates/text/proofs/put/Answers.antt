@@ -10,7 +10,7 @@ returns c = record {
       let at = c.args.at in
       let text = c.args.text.now in
       holds_more base front buffer at held text _
-      (ap (λ t. take at buffer ++ (t ++ drop ((at + length text) - at) (drop at buffer))) c.copy-from-slice.ensures.after
+      (ap (λ t. take at buffer ++ (t ++ drop ((at + length text) - at) (drop at buffer))) c.copy_from_slice.ensures.after
       ∙ ap (λ k. take at buffer ++ (text ++ drop k (drop at buffer))) (omega arith));
   refused = λ over. search rules;
 }

@@ -14,14 +14,14 @@ loop-i-preserved g c =
     let lines = g.C.Chart.lines c.args.chart.now in
     let flags = c.loop-i.flags in
     let i = c.loop-i.i in
-    let above = c.all-above-above.result in
-    let direct = c.direct-sources-direct.result in (
+    let above = c.all_above-above.result in
+    let direct = c.direct_sources-direct.result in (
       (λ at k within is both.
           ⊎_elim
           (λ (here : at ≡ i).
           ap (λ n. get_or (set flags i c.flag.result) n false) here
           ∙ get_or-set_same flags i c.flag.result false (omega arith)
-          ∙ flagged lines above direct k c.flag.result c.all-above-above.ensures c.direct-sources-direct.ensures
+          ∙ flagged lines above direct k c.flag.result c.all_above-above.ensures c.direct_sources-direct.ensures
           (subst (λ (l : Option Line). Flagged above direct l c.flag.result) (c.line.ensures ∙ ap (λ n. get_or lines n None) (sym here) ∙ is) c.flag.ensures))
           (λ (other : at ≡ i → ⊥).
           get_or-set_other flags i at c.flag.result false other

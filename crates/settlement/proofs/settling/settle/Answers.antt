@@ -18,9 +18,9 @@ loop-n-preserved g c =
     let lines = g.C.Chart.lines c.args.chart.now in
     let signs = g.C.SignedChart.signs c.args.chart.now in
     let R = g.R.Ruling.ranking c.args.ruling.now in
-    let n = c.loop-n.-n in
+    let n = c.loop-n._n in
     λ a.
-    c.round-next.ensures c.find-overridden-flags.ensures a
+    c.round-next.ensures c.find_overridden-flags.ensures a
     ∙ repicked_same lines signs c.args.owner R c.args.policy (picked c.loop-n.picks) (rounds lines signs c.args.owner R c.args.policy n) c.loop-n.invariant a
     ∙ ap (λ k. rounds lines signs c.args.owner R c.args.policy k a) (sym (add-one n))
 
@@ -31,12 +31,12 @@ returns-then-same g c =
     let owner = c.args.owner in
     let R = g.R.Ruling.ranking c.args.ruling.now in
     let p = c.args.policy in
-    let n = c.loop-n.-n in
+    let n = c.loop-n._n in
     let picks = picked c.loop-n.picks in
     let all : (suc (length lines) - n) + n ≡ suc (length lines) = omega (arith, c.loop-n-test.true, c.len-n-end.ensures.value) in
     let computed : (a : ℕ) → picks a ≡ settled lines signs owner R p a
     = λ a.
-    rounds_stay lines signs owner R p picks n c.loop-n.invariant (λ b. sym (c.round-next.ensures c.find-overridden-flags.ensures b) ∙ c.same.ensures c.if-same.true b) (suc (length lines) - n) a
+    rounds_stay lines signs owner R p picks n c.loop-n.invariant (λ b. sym (c.round-next.ensures c.find_overridden-flags.ensures b) ∙ c.same.ensures c.if-same.true b) (suc (length lines) - n) a
     ∙ ap (λ k. rounds lines signs owner R p k a) all in
     record {
       value = computed;
@@ -53,7 +53,7 @@ returns g c =
     let R = g.R.Ruling.ranking c.args.ruling.now in
     let p = c.args.policy in
     let picks = picked c.loop-n.picks in
-    let all : c.loop-n.-n ≡ suc (length lines) = omega (arith, c.loop-n.auto.-n-end, c.len-n-end.ensures.value) in
+    let all : c.loop-n._n ≡ suc (length lines) = omega (arith, c.loop-n.auto._n-end, c.len-n-end.ensures.value) in
     let computed : (a : ℕ) → picks a ≡ settled lines signs owner R p a
     = λ a. c.loop-n.invariant a ∙ ap (λ k. rounds lines signs owner R p k a) all in
     record {

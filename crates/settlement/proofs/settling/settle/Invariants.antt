@@ -5,4 +5,4 @@ use Rattle.settlement.proofs.settling.settle.Given as goal
 
 abbrev pub invariant-loop-n : goal.invariant-loop-n
 invariant-loop-n g l =
-    (a : ℕ) → picked l.picks a ≡ rounds (g.C.Chart.lines l.chart) (g.C.SignedChart.signs l.chart) l.owner (g.R.Ruling.ranking l.ruling) l.policy l.-n a
+    (a : ℕ) → picked l.picks a ≡ rounds (g.C.Chart.lines l.chart) (g.C.SignedChart.signs l.chart) l.owner (g.R.Ruling.ranking l.ruling) l.policy l._n a

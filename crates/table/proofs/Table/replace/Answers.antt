@@ -9,12 +9,12 @@ pub put-requires : goal.put-requires
 put-requires g c =
     omega (arith, c.in-Some.ensures.bound, ap length c.used.ensures, length-take c.args.self.now.len c.args.self.now.cells.now)
 
-pub returns-in-default : goal.returns-in-default
-returns-in-default g c =
+pub returns-in_default : goal.returns-in_default
+returns-in_default g c =
     let test = λ (x : g.row.R.Denot). g.R.Record.has x c.args.key in
     let all = c.args.self.now.cells.now in
     let xs = take c.args.self.now.len all in
-    let nowhere = found_nowhere test 0 xs (ap (place test) (sym c.used.ensures) ∙ sym c.in-default.ensures.value) in
+    let nowhere = found_nowhere test 0 xs (ap (place test) (sym c.used.ensures) ∙ sym c.in_default.ensures.value) in
     record {
       value = rw (ap is_some nowhere.0) refl;
       used = sym (nowhere.1 c.args.item);

@@ -1,8 +1,8 @@
 use Rattle.table.proofs.Compacted.{fewer, retained, went, retained_cells}
 use Rattle.table.proofs.Table.retain.Goals as goal
 
-pub overflow-sub-result : goal.overflow-sub-result
-overflow-sub-result g c =
+pub overflow_sub-result : goal.overflow_sub-result
+overflow_sub-result g c =
     fewer (g.K.Retain.stays c.args.rule.now) c.args.self.now.cells.now c.compact-stay.new.cells c.args.self.now.len _ _ c.min-len.ensures c.compact-stay.ensures.value c.compact-stay.ensures.after
 
 pub returns : goal.returns

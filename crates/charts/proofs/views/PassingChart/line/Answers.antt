@@ -9,9 +9,9 @@ returns-in-Delegatable g c =
     let signs = g.C.SignedChart.signs c.args.self.now.chart.now in
     c.line.ensures ∙ passing_at_kind signs lines c.args.at Delegatable (ap (λ s. s.kind) (sym c.sign.ensures) ∙ c.in-Delegatable.is)
 
-pub returns-in-default : goal.returns-in-default
-returns-in-default g c =
+pub returns-in_default : goal.returns-in_default
+returns-in_default g c =
     let lines = g.C.Chart.lines c.args.self.now.chart.now in
     let signs = g.C.SignedChart.signs c.args.self.now.chart.now in
-    ap (λ b. cond b (get_or lines c.args.at None) None) (sym (not_passing c.sign.result.kind c.in-default.not-Delegatable))
+    ap (λ b. cond b (get_or lines c.args.at None) None) (sym (not_passing c.sign.result.kind c.in_default.not-Delegatable))
     ∙ passing_at_kind signs lines c.args.at c.sign.result.kind (ap (λ s. s.kind) (sym c.sign.ensures))
