@@ -1,4 +1,4 @@
-// Charts: directed graphs by their lines, the accounts that a start reaches, and what a line says.
+// Charts: directed graphs by their lines, the accounts that a search reaches, and what a line says.
 pub mod above;
 pub mod accounts;
 pub mod chart;
@@ -8,5 +8,5 @@ pub mod views;
 pub use above::{Sources, all_above, direct_sources};
 pub use accounts::Accounts;
 pub use chart::{Chart, Line, Sign, SignedChart};
-pub use reach::reachable;
+pub use reach::search;
 pub use views::{Mark, Marks, Passing, Without};

@@ -11,7 +11,7 @@ use terms::ACCOUNTS;
 // The accounts that a chain of lines leads to from the start: exactly those. Passes over the lines go on
 // as long as they find an account more, so it makes at most one pass more than the longest of the shortest
 // chains from the start has lines; two passes do where each line stands behind a shortest chain to its start.
-pub fn reachable<C: Chart>(chart: &C, start: u16) -> Accounts
+pub fn search<C: Chart>(chart: &C, start: u16) -> Accounts
     ensures { (b : ℕ) → Decides (member result b) (Chain (C.lines chart.now) start b) }
 {
     let mut reached = Accounts::none();

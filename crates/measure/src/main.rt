@@ -1,11 +1,11 @@
-// Settles a chart, finds who is reached in it, or asks a register, again and again, to be timed from outside:
-// measure WHAT LINES STEP ORDER TIMES. WHAT is `reach` or `request`, or else the chart is settled. The line to an
+// Settles or searches a chart, or asks a register, again and again, to be timed from outside:
+// measure WHAT LINES STEP ORDER TIMES. WHAT is `search` or `request`, or else the chart is settled. The line to an
 // account comes from the account STEP before it, or from account 0, the owner, so that the longest chain has one line
 // more than 510 / STEP; a second line to an account comes from one further back. ORDER is `backward` where the lines
 // stand the other way round. A request is on a register whose 4,096 cells are all in use, by four drafts with grants
 // between the same accounts; LINES and ORDER do not matter for it.
 use anyhow::Context;
-use charts::{Mark, Marks, reachable};
+use charts::{Mark, Marks, search};
 use model::{Decision, DraftRecord, GrantRecord};
 use rights::Register;
 use rulings::House;
@@ -16,7 +16,7 @@ use terms::{CELLS, DRAFT_CELLS, Kind};
 
 #[derive(Clone, Copy)]
 struct Plan {
-    reach: bool,
+    search: bool,
     request: bool,
     lines: u16,
     step: u16,
@@ -35,8 +35,8 @@ fn run(rt: &HostRuntime) -> anyhow::Result<()> {
     }
     let marks = draw(rt.alloc(), &plan)?;
     let chart = Marks { marks: &marks };
-    if plan.reach {
-        let found = reach_often(&chart, plan.times);
+    if plan.search {
+        let found = search_often(&chart, plan.times);
         println!(rt; "account 511 is reached: {found}")?;
     } else {
         match settle_often(&chart, plan.times) {
@@ -47,10 +47,10 @@ fn run(rt: &HostRuntime) -> anyhow::Result<()> {
     Ok(())
 }
 
-fn reach_often(chart: &Marks, times: u32) -> bool {
+fn search_often(chart: &Marks, times: u32) -> bool {
     let mut found = false;
     for _ in 0..times {
-        found = reachable(chart, 0).contains(511);
+        found = search(chart, 0).contains(511);
     }
     found
 }
@@ -111,7 +111,7 @@ fn read_plan(rt: &HostRuntime) -> anyhow::Result<Plan> {
     let order = args.next().context("no order")?;
     let times = args.next().context("no number of times")?;
     Ok(Plan {
-        reach: what.as_str() == "reach",
+        search: what.as_str() == "search",
         request: what.as_str() == "request",
         lines: lines.parse::<u16>()?,
         step: step.parse::<u16>()?,

@@ -1,5 +1,5 @@
 // What the marks of one right on one draft tell of an account. Each call costs at most a step for each mark, and
-// `closes_circle` what `reachable` costs.
+// `closes_circle` what `search` costs.
 ghost use Rattle.std.specs.Prelude.{◌≡◌, ℕ, ◌<◌, ◌≤◌, true, false, ◌||◌, length, is_some, ◌==◌};
 ghost use Rattle.table.specs.Used.{first};
 ghost use Rattle.charts.specs.Reaching.{above};
@@ -9,7 +9,7 @@ ghost use Rattle.rights.specs.Gathering.{names};
 ghost use Rattle.rights.specs.Lengths.{named_accounts};
 
 use charts::chart::Chart;
-use charts::{Accounts, Mark, Marks, reachable};
+use charts::{Accounts, Mark, Marks, search};
 use terms::Kind;
 
 // Whether some grant names the account.
@@ -81,7 +81,7 @@ pub(crate) fn closes_circle(marks: &[Mark], caller: u16, account: u16) -> bool
     requires { length marks.now ≤ 4096 }
     ensures { result ≡ (account == caller || above (lines_of marks.now) account caller) }
 {
-    account == caller || reachable(&Marks { marks }, account).contains(caller)
+    account == caller || search(&Marks { marks }, account).contains(caller)
 }
 
 // Whether the mark is delegatable and names the account.

@@ -28,8 +28,8 @@ pub(crate) fn consider<C: SignedChart, R: Ruling>(
     ensures { ((k : ℕ) (l : ChartLine) → slice_index_or (C.Chart.lines chart.now) k None ≡ Some l → between_accounts l ≡ true → slice_index_or flags.now k false ≡ overridden (C.Chart.lines chart.now) l) →
         (a : ℕ) → picked next.new a
         ≡ cond (a == owner) (picked next.old a)
-        (cond (eligible (C.Chart.lines chart.now) (signs chart.now) owner (picked picks.now) a (slice_index_or (C.Chart.lines chart.now) at None))
-        (prefer (better (C.Chart.lines chart.now) (signs chart.now) (ranking ruling.now) policy) at (picked next.old a))
+        (cond (eligible (C.Chart.lines chart.now) (C.signs chart.now) owner (picked picks.now) a (slice_index_or (C.Chart.lines chart.now) at None))
+        (prefer (better (C.Chart.lines chart.now) (C.signs chart.now) (R.ranking ruling.now) policy) at (picked next.old a))
         (picked next.old a)) }
 {
     if let Some(account) = candidate(chart, owner, flags, picks, at) {
@@ -83,7 +83,7 @@ fn challenge<C: SignedChart, R: Ruling>(
 )
     requires { (at < 4096) × (account < 512) }
     ensures { (a : ℕ) → picked next.new a
-        ≡ (if nat_eq a account then prefer (better (C.Chart.lines chart.now) (signs chart.now) (ranking ruling.now) policy) at (picked next.old a) else picked next.old a) }
+        ≡ (if nat_eq a account then prefer (better (C.Chart.lines chart.now) (C.signs chart.now) (R.ranking ruling.now) policy) at (picked next.old a) else picked next.old a) }
 {
     if stays(chart, ruling, policy, next.pick(account), at) {
         return;

@@ -53,7 +53,7 @@ fn round<C: SignedChart, R: Ruling>(
     picks: &Settlement,
 ) -> Settlement
     ensures { ((k : ℕ) (l : ChartLine) → slice_index_or (C.Chart.lines chart.now) k None ≡ Some l → between_accounts l ≡ true → slice_index_or flags.now k false ≡ overridden (C.Chart.lines chart.now) l) →
-        (a : ℕ) → picked result a ≡ repicked (C.Chart.lines chart.now) (signs chart.now) owner (ranking ruling.now) policy (picked picks.now) a }
+        (a : ℕ) → picked result a ≡ repicked (C.Chart.lines chart.now) (C.signs chart.now) owner (R.ranking ruling.now) policy (picked picks.now) a }
 {
     let mut next = Settlement::none();
     for i in 0..chart.len() {

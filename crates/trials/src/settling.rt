@@ -1,5 +1,5 @@
 // Which line decides on small charts, by its place. Account 1 owns each.
-use charts::{Mark, Marks, reachable};
+use charts::{Mark, Marks, search};
 use rulings::{House, Ruling, Seniority};
 use settlement::settle;
 use std::process::Abort;
@@ -103,7 +103,7 @@ fn every_line_counts_in_a_chain(rt: HostRuntime) {
 
 // Lines lead round from 2 over 3 and 4, and to 2 from 5.
 #[test]
-fn reaching_ends_on_a_circle(rt: HostRuntime) {
+fn a_search_ends_on_a_circle(rt: HostRuntime) {
     let marks = [
         mark(4, 2, Kind::Plain, 1),
         mark(3, 4, Kind::Plain, 2),
@@ -111,9 +111,9 @@ fn reaching_ends_on_a_circle(rt: HostRuntime) {
         mark(5, 2, Kind::Plain, 4),
     ];
     let chart = Marks { marks: &marks };
-    let round = reachable(&chart, 2);
+    let round = search(&chart, 2);
     assert!(rt; round.contains(2) & round.contains(3) & round.contains(4) & !round.contains(5));
-    let onto = reachable(&chart, 5);
+    let onto = search(&chart, 5);
     assert!(rt; onto.contains(2) & onto.contains(3) & onto.contains(4) & !onto.contains(5));
-    assert!(rt; !reachable(&chart, 1).contains(1));
+    assert!(rt; !search(&chart, 1).contains(1));
 }

@@ -20,7 +20,7 @@ use crate::gathered::gather;
 use crate::marks::place_of;
 use crate::register::Register;
 use crate::register::checks::{account_in_range, right_in_range};
-use charts::{Accounts, Marks, Passing, Without, reachable};
+use charts::{Accounts, Marks, Passing, Without, search};
 use model::{DraftRecord, GrantKey, GrantRecord};
 use table::{Retain, TableFault};
 
@@ -83,7 +83,7 @@ impl Register<'_> {
         let at = place_of(marks, key.grantor, key.account);
         let chart = Marks { marks };
         let left = Without { chart: &chart, at };
-        let reached = reachable(&Passing { chart: &left }, found.owner);
+        let reached = search(&Passing { chart: &left }, found.owner);
         StillRooted {
             key,
             owner: found.owner,

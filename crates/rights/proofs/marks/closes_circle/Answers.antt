@@ -16,8 +16,8 @@ returns-else-account-caller c =
     let a = c.args.account in
     let b = c.args.caller in
     let all : take 4096 marks ≡ marks = take_all 4096 marks c.requires in
-    let found = c.reachable.ensures b in
-    let same = same_from_decides (member c.reachable.result b) (above (lines_of marks) a b)
+    let found = c.search.ensures b in
+    let same = same_from_decides (member c.search.result b) (above (lines_of marks) a b)
     ((λ e. subst (λ (ms : List Mark). Chain (lines_of ms) a b) all (found.0 e)), (λ chain. found.1 (subst (λ (ms : List Mark). Chain (lines_of ms) a b) (sym all) chain)))
     (above_decides (lines_of marks) a b) in
     c.contains.ensures ∙ same ∙ ap (λ t. t || above (lines_of marks) a b) (sym (ne_eqb a b c.if-account-caller.false))

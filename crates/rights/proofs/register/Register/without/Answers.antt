@@ -23,5 +23,5 @@ returns c =
       reached = λ a.
           reached_without c.args.self.now key.draft key.right key.grantor key.account c.args.found.now c.requires c.marks-marks.result.now is
           (omega (arith, ap length marks, length-take c.gather-gathered.result.len c.gather-gathered.result.marks, gathered.few))
-          c.place-of-at.result told.before told.here _ a (c.reachable-reached.ensures a);
+          c.place-of-at.result told.before told.here _ a (c.search-reached.ensures a);
     }

@@ -5,7 +5,7 @@ use Rattle.charts.specs.Members.{member}
 use Rattle.charts.specs.Passes.{reached_from, Is}
 use Rattle.charts.proofs.Found.{missing_less, all_found, chain_from_account}
 use Rattle.charts.proofs.Reached.{member_account}
-use Rattle.charts.proofs.reach.reachable.Goals as goal
+use Rattle.charts.proofs.reach.search.Goals as goal
 
 pub returns-then-start-ge-ACCOUNTS : goal.returns-then-start-ge-ACCOUNTS
 returns-then-start-ge-ACCOUNTS g c =
