@@ -1,6 +1,6 @@
 -- The books of a register are in order, and its grants sound, after every history. Assumes nothing.
 use Rattle.std.proofs.Common.{◌≡◌, ℕ, ◌+◌, ◌<◌, ◌≤◌, Bool, true, false, cond, not, ◌&&◌, ◌||◌, eqb, ltb, List, [], ◌∷◌, ◌++◌, map, length, is_some, Some, None, sum_by, count_by, filter, sym, refl, ap, ◌∙◌, subst, ap₂, subst₂, ⊎_elim, arith}
-use Rattle.std.specs.List.{AllByRecursion as All}
+use Rattle.std.specs.List.{AllByRecursion}
 use Rattle.std.proofs.lemmas.List.Sums.{sum_by-cons, sum_by_push, length-filter}
 use Rattle.std.proofs.lemmas.List.Filters.{sum_by-filter_both}
 use Rattle.std.proofs.ByRecursion.{All-push, All-weaker, all_kept_by}
@@ -83,11 +83,11 @@ sum_both : {X : Type 0} (f g h : X → ℕ) → ((x : X) → f x + g x ≤ h x) 
 sum_both f g h each [] = omega arith
 sum_both f g h each (x ∷ xs) = omega (arith, each x, sum_both f g h each xs, sum_by-cons f x xs, sum_by-cons g x xs, sum_by-cons h x xs)
 
-sum_most : {X : Type 0} (f h : X → ℕ) (xs : List X) → All (λ x. f x ≤ h x) xs → sum_by f xs ≤ sum_by h xs
+sum_most : {X : Type 0} (f h : X → ℕ) (xs : List X) → AllByRecursion (λ x. f x ≤ h x) xs → sum_by f xs ≤ sum_by h xs
 sum_most f h [] each = omega arith
 sum_most f h (x ∷ xs) each = omega (arith, each.0, sum_most f h xs each.1, sum_by-cons f x xs, sum_by-cons h x xs)
 
-sum_less : {X : Type 0} (f h : X → ℕ) (test : X → Bool) (y : X) → f y < h y → (xs : List X) → All (λ x. f x ≤ h x) xs → first test xs ≡ Some y → sum_by f xs < sum_by h xs
+sum_less : {X : Type 0} (f h : X → ℕ) (test : X → Bool) (y : X) → f y < h y → (xs : List X) → AllByRecursion (λ x. f x ≤ h x) xs → first test xs ≡ Some y → sum_by f xs < sum_by h xs
 sum_less f h test y less [] each found = let z : ◌≡◌ {A = ℕ} 0 1 = cc in absurd (omega arith)
 sum_less f h test y less (x ∷ xs) each found =
     elim (test x) as (λ b. cond b (Some x) (first test xs) ≡ Some y → sum_by f (x ∷ xs) < sum_by h (x ∷ xs)) [
@@ -110,7 +110,7 @@ counted_once g (x ∷ xs) open' =
     ] refl open'
 
 -- so all grants together are
-all_counted : (xs : List DraftRecord) (gs : List GrantRecord) → All (λ g. is_some (first (by_draft g.draft) xs) ≡ true) gs → length gs ≤ sum_by (λ x. count_by (is_on_draft x.draft) gs) xs
+all_counted : (xs : List DraftRecord) (gs : List GrantRecord) → AllByRecursion (λ g. is_some (first (by_draft g.draft) xs) ≡ true) gs → length gs ≤ sum_by (λ x. count_by (is_on_draft x.draft) gs) xs
 all_counted xs [] opens = omega arith
 all_counted xs (g ∷ gs) opens =
     omega (
@@ -140,19 +140,19 @@ sound_empty places cells d r x found = let z : ◌≡◌ {A = ℕ} 0 1 = cc in a
 
 -- the draft of each of these grants is among these
 abbrev On : List DraftRecord → List GrantRecord → Type 0
-On xs gs = All (λ g. is_some (first (by_draft g.draft) xs) ≡ true) gs
+On xs gs = AllByRecursion (λ g. is_some (first (by_draft g.draft) xs) ≡ true) gs
 
 -- what is kept passed the test
-all_kept_weaker : {X : Type 0} (p : X → Bool) (P Q : X → Type 0) → ((x : X) → p x ≡ true → P x → Q x) → (xs : List X) → All P xs → All Q (filter p xs)
+all_kept_weaker : {X : Type 0} (p : X → Bool) (P Q : X → Type 0) → ((x : X) → p x ≡ true → P x → Q x) → (xs : List X) → AllByRecursion P xs → AllByRecursion Q (filter p xs)
 all_kept_weaker p P Q weaker [] all = tt
 all_kept_weaker p P Q weaker (x ∷ xs) all =
     let rest = all_kept_weaker p P Q weaker xs all.1 in
-    elim (p x) as (λ b. p x ≡ b → All Q (cond b (x ∷ filter p xs) (filter p xs))) [
+    elim (p x) as (λ b. p x ≡ b → AllByRecursion Q (cond b (x ∷ filter p xs) (filter p xs))) [
       | true ↦ λ t. (weaker x t all.0, rest)
       | false ↦ λ t. rest
     ] refl
 
-all_found : {X : Type 0} (p : X → Bool) (P : X → Type 0) (y : X) (xs : List X) → All P xs → first p xs ≡ Some y → P y
+all_found : {X : Type 0} (p : X → Bool) (P : X → Type 0) (y : X) (xs : List X) → AllByRecursion P xs → first p xs ≡ Some y → P y
 all_found p P y [] all found = let z : ◌≡◌ {A = ℕ} 0 1 = cc in absurd (omega arith)
 all_found p P y (x ∷ xs) all found =
     elim (p x) as (λ b. cond b (Some x) (first p xs) ≡ Some y → P y) [
@@ -173,16 +173,16 @@ count_kept : {X : Type 0} (p q : X → Bool) (xs : List X) → count_by p (filte
 count_kept p q xs = omega (arith, sum_by-filter_both q (λ x. not (q x)) (λ _. refl) (λ x. cond (p x) 1 0) xs)
 
 -- no grant is on a draft that is not open
-none_on : (d : ℕ) (xs : List DraftRecord) (gs : List GrantRecord) → first (by_draft d) xs ≡ None → On xs gs → All (λ g. is_on_draft d g ≡ false) gs
+none_on : (d : ℕ) (xs : List DraftRecord) (gs : List GrantRecord) → first (by_draft d) xs ≡ None → On xs gs → AllByRecursion (λ g. is_on_draft d g ≡ false) gs
 none_on d xs gs absent opens =
     All-weaker (λ g. is_some (first (by_draft g.draft) xs) ≡ true) (λ g. is_on_draft d g ≡ false)
     (λ g found. ne_eqb g.draft d (λ same. false≢true (sym (ap (λ o. is_some o) absent) ∙ (sym (ap (λ (n : ℕ). is_some (first (by_draft n) xs)) same) ∙ found)))) gs opens
 
-count_none : (d : ℕ) (gs : List GrantRecord) → All (λ g. is_on_draft d g ≡ false) gs → count_by (is_on_draft d) gs ≡ 0
+count_none : (d : ℕ) (gs : List GrantRecord) → AllByRecursion (λ g. is_on_draft d g ≡ false) gs → count_by (is_on_draft d) gs ≡ 0
 count_none d gs none = sym (length-filter (is_on_draft d) gs) ∙ ap length (kept_none (is_on_draft d) gs none)
 
 -- records of another number, where this number does not count
-all_elsewhere : (d : ℕ) (P Q : DraftRecord → Type 0) → ((z : DraftRecord) → (z.draft ≡ d → ⊥) → P z → Q z) → (xs : List DraftRecord) → count_by (by_draft d) xs ≡ 0 → All P xs → All Q xs
+all_elsewhere : (d : ℕ) (P Q : DraftRecord → Type 0) → ((z : DraftRecord) → (z.draft ≡ d → ⊥) → P z → Q z) → (xs : List DraftRecord) → count_by (by_draft d) xs ≡ 0 → AllByRecursion P xs → AllByRecursion Q xs
 all_elsewhere d P Q weaker [] zero_times all = tt
 all_elsewhere d P Q weaker (x ∷ xs) zero_times all =
     let parts = sum_by-cons (λ z. cond (by_draft d z) 1 0) x xs in (
@@ -193,11 +193,11 @@ all_elsewhere d P Q weaker (x ∷ xs) zero_times all =
     )
 
 -- a record in the place of the one of its number
-all_replaced : (d : ℕ) (y : DraftRecord) (P Q : DraftRecord → Type 0) → ((z : DraftRecord) → (z.draft ≡ d → ⊥) → P z → Q z) → Q y → (xs : List DraftRecord) → count_by (by_draft d) xs ≤ 1 → All P xs → All Q (replaced (by_draft d) y xs)
+all_replaced : (d : ℕ) (y : DraftRecord) (P Q : DraftRecord → Type 0) → ((z : DraftRecord) → (z.draft ≡ d → ⊥) → P z → Q z) → Q y → (xs : List DraftRecord) → count_by (by_draft d) xs ≤ 1 → AllByRecursion P xs → AllByRecursion Q (replaced (by_draft d) y xs)
 all_replaced d y P Q weaker own [] most all = tt
 all_replaced d y P Q weaker own (x ∷ xs) most all =
     let parts = sum_by-cons (λ z. cond (by_draft d z) 1 0) x xs in
-    elim (eqb x.draft d) as (λ b. eqb x.draft d ≡ b → All Q (cond b (y ∷ xs) (x ∷ replaced (by_draft d) y xs))) [
+    elim (eqb x.draft d) as (λ b. eqb x.draft d ≡ b → AllByRecursion Q (cond b (y ∷ xs) (x ∷ replaced (by_draft d) y xs))) [
       | true ↦ λ t.
           let one : ◌≡◌ {A = ℕ} (cond (by_draft d x) 1 0) 1 = rw t refl in
           (own, all_elsewhere d P Q weaker xs (omega (arith, one, parts)) all.1)

@@ -1,6 +1,6 @@
 -- Lists of which some are kept. Assumes nothing.
 use Rattle.std.proofs.Common.{◌≡◌, ℕ, Bool, true, false, cond, ◌&&◌, List, [], ◌∷◌, map, Some, filter, sym, refl, ap, ◌∙◌, arith}
-use Rattle.std.specs.List.{AllByRecursion as All}
+use Rattle.std.specs.List.{AllByRecursion}
 use Rattle.table.specs.Used.{first}
 
 module _ {X : Type 0} where
@@ -48,11 +48,11 @@ module _ {X : Type 0} where
       ] (implied x)
 
   -- where none passes, none is kept, and where all do, all are
-  pub kept_none : (p : X → Bool) (xs : List X) → All (λ x. p x ≡ false) xs → filter p xs ≡ []
+  pub kept_none : (p : X → Bool) (xs : List X) → AllByRecursion (λ x. p x ≡ false) xs → filter p xs ≡ []
   kept_none p [] none = refl
   kept_none p (x ∷ xs) none = rw none.0 (kept_none p xs none.1)
 
-  pub kept_all : (p : X → Bool) (xs : List X) → All (λ x. p x ≡ true) xs → filter p xs ≡ xs
+  pub kept_all : (p : X → Bool) (xs : List X) → AllByRecursion (λ x. p x ≡ true) xs → filter p xs ≡ xs
   kept_all p [] all = refl
   kept_all p (x ∷ xs) all = rw all.0 (ap (λ ys. x ∷ ys) (kept_all p xs all.1))
 

@@ -1,7 +1,7 @@
 -- Marks by their places, and the lines and chains that they make: in a list with one more, and in a list of which
 -- some are kept. Assumes nothing.
 use Rattle.std.proofs.Common.{◌≡◌, ℕ, zero, suc, ◌<◌, Bool, true, false, cond, ◌⊎◌, List, [], ◌∷◌, ◌++◌, length, get_or, is_some, Some, None, filter, Option, sym, refl, ap, ◌∙◌, subst, inl, inr, ⊎_elim, arith}
-use Rattle.std.specs.List.{slice_get, ContainsAt as Has}
+use Rattle.std.specs.List.{slice_get, ContainsAt}
 use Rattle.std.proofs.lemmas.Option.{slice_get-get_or}
 use Rattle.std.proofs.lemmas.Bool.{true≢false, false≢true}
 use Rattle.terms.specs.declared.Kind.{Kind}
@@ -102,7 +102,7 @@ module _ {X : Type 0} where
   first_none p (y ∷ ys) zero x none is = let f = (none_step y (p y) (first p ys) none).0 in cc
   first_none p (y ∷ ys) (suc i) x none is = first_none p ys i x (none_step y (p y) (first p ys) none).1 is
 
-  pub has_at : (xs : List X) (x : X) → Has xs x → (i : ℕ) × At xs i x
+  pub has_at : (xs : List X) (x : X) → ContainsAt xs x → (i : ℕ) × At xs i x
   has_at xs x (k, within, is) = (k, slice_get-get_or xs k x within ∙ ap Some (is x))
 
   at_within : (xs : List X) (i : ℕ) (x : X) → At xs i x → (i < length xs) × ((d : X) → get_or xs i d ≡ x)
@@ -110,7 +110,7 @@ module _ {X : Type 0} where
   at_within (y ∷ ys) zero x is = (omega arith, λ d. cc)
   at_within (y ∷ ys) (suc i) x is = let f = at_within ys i x is in (omega arith, f.1)
 
-  pub at_has : (xs : List X) (i : ℕ) (x : X) → At xs i x → Has xs x
+  pub at_has : (xs : List X) (i : ℕ) (x : X) → At xs i x → ContainsAt xs x
   at_has xs i x is = let f = at_within xs i x is in (i, f.0, f.1)
 
 abbrev to_of : Option Line → ℕ

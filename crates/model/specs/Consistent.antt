@@ -1,6 +1,6 @@
 -- When the grants of one right on one draft are sound, and when they are consistent. Assumes nothing.
 use Rattle.std.specs.Prelude.{◌≡◌, ℕ, true, ◌⊎◌, List, Some, None, slice_index_or}
-use Rattle.std.specs.List.{ContainsAt as Has}
+use Rattle.std.specs.List.{ContainsAt}
 use Rattle.charts.specs.declared.chart.Line.{Line}
 use Rattle.charts.specs.declared.views.Mark.{Mark}
 use Rattle.charts.specs.Chains.{Leads, Chain, NoCircle}
@@ -36,7 +36,7 @@ pub record Consistent (owner : ℕ) (marks : List Mark) : Type 0 where
 
 -- all these grants are among those
 abbrev pub Part : List Mark → List Mark → Type 0
-Part some all = (m : Mark) → Has some m → Has all m
+Part some all = (m : Mark) → ContainsAt some m → ContainsAt all m
 
 -- of the grants `left` these are a consistent part, and every other consistent part is within it
 pub record LargestRest (owner : ℕ) (left rest : List Mark) : Type 0 where

@@ -1,6 +1,6 @@
 -- The law over histories. Assumes nothing.
 use Rattle.std.specs.Prelude.{◌≡◌, ℕ, ◌+◌, ◌<◌, ◌≤◌, Bool, true, false, cond, ◌&&◌, ◌⊎◌, List, [], ◌∷◌, Some, count_by, ◌==◌}
-use Rattle.std.specs.List.{AllByRecursion as All}
+use Rattle.std.specs.List.{AllByRecursion}
 use Rattle.charts.specs.declared.views.Mark.{Mark}
 use Rattle.charts.specs.Chains.{Chain}
 use Rattle.rulings.specs.Ranking.{Ranking, Lawful}
@@ -24,9 +24,9 @@ pub record Orderly (s : State) : Type 0 where
   -- all reservations together fit into the cells
   pub fits : reserved s.drafts ≤ s.cells
   -- the draft of each grant is open
-  pub on_open : All (λ g. is_open g.draft s ≡ true) s.grants
+  pub on_open : AllByRecursion (λ g. is_open g.draft s ≡ true) s.grants
   -- no draft has more grants than it reserved
-  pub within : All (λ x. count_by (is_on_draft x.draft) s.grants ≤ x.cells) s.drafts
+  pub within : AllByRecursion (λ x. count_by (is_on_draft x.draft) s.grants ≤ x.cells) s.drafts
 
 -- in each open draft and right the grants are sound
 abbrev pub SoundThroughout : State → Type 0

@@ -2,28 +2,38 @@
 use Rattle.std.proofs.Common.{◌≡◌, ℕ, ◌<◌, ◌≤◌, Bool, true, false, cond, length, Some, count_by, sym, refl, ap, ◌∙◌, subst}
 use mathlib.Core.Logic.{∥∥₁_elim, ∥∥₁_map}
 use native.Mathlib.Bridge.{le_prop}
+use Rattle.table.specs.declared.Table.{Table}
 use Rattle.table.specs.Used.{used, room}
 use Rattle.rulings.specs.Ranking.{Ranking, Lawful}
 use Rattle.model.specs.declared.records.DraftRecord.{DraftRecord}
+use Rattle.model.specs.declared.records.GrantRecord.{GrantRecord}
 use Rattle.model.specs.Calls.{Call}
 use Rattle.model.specs.Grants.{is_on_draft, of_right}
 use Rattle.model.specs.History.{Reached}
 use Rattle.model.specs.Law.{SoundThroughout}
 use Rattle.model.specs.Meaning.{next}
-use Rattle.model.specs.State.{State, draft_of, reserved}
+use Rattle.model.specs.State.{State, state, draft_of, reserved, Once}
 use Rattle.rights.specs.declared.register.Register.{Register}
 use Rattle.rights.specs.Contents.{contents}
 use Rattle.model.proofs.Invariant.{reached_next, reached_orderly, reached_sound, room_left}
 use Rattle.model.proofs.Sounds.{sound_known}
+
+-- a history leads to what these tables hold, so that their books are in order
+abbrev pub Left : Table DraftRecord → Table GrantRecord → Type 0
+Left drafts grants = ∥ Reached (state (room drafts) (room grants) (used drafts) (used grants)) ∥₁
+
+module _ (drafts : Table DraftRecord) (grants : Table GrantRecord) (left : Left drafts grants) where
+  pub left_fits : reserved (used drafts) ≤ room grants
+  left_fits = ∥∥₁_elim left le_prop (λ by. (reached_orderly (state (room drafts) (room grants) (used drafts) (used grants)) by).fits)
+
+  pub left_once : Once (used drafts)
+  left_once d = ∥∥₁_elim left le_prop (λ by. (reached_orderly (state (room drafts) (room grants) (used drafts) (used grants)) by).once d)
 
 module _ (was : Register) where
   -- what a call leaves is reached too
   pub still_reached : (R : Ranking) → Lawful R → (c : Call) (t : State) → t ≡ next R (contents was) c → ∥ Reached t ∥₁
   still_reached R lawful c t is =
       subst (λ x. ∥ Reached x ∥₁) (sym is) (∥∥₁_map was.reached (reached_next R lawful (contents was) c))
-
-  pub reservations_fit : reserved (used was.drafts) ≤ room was.grants
-  reservations_fit = ∥∥₁_elim was.reached le_prop (λ reached. (reached_orderly (contents was) reached).fits)
 
   pub room_for_one : (d : ℕ) (x : DraftRecord) → draft_of d (contents was) ≡ Some x → count_by (is_on_draft d) (used was.grants) < x.cells → length (used was.grants) < room was.grants
   room_for_one d x found fewer =

@@ -21,7 +21,7 @@ returns c =
     let marks = c.args.marks.now in
     let at = c.from-at.result in
     let blank : Mark = record { from = 0; to = 0; kind = Denying; serial = 0 } in
-    c.decided-by.ensures
+    c.decided_by.ensures
     ∙ ap (λ s. by_kind s.kind (get_or marks at blank).from) (sym (get_or-map mark_sign marks at blank no_sign c.if-at-marks.false))
     ∙ ap (λ l. by_kind (signs_of marks at).kind (from_of l)) (sym (get_or-map mark_line marks at blank None c.if-at-marks.false))
     ∙ ap (by_pick marks) (ap Some c.from-at.ensures ∙ sym c.in-Some.is)

@@ -7,8 +7,8 @@ use Rattle.model.specs.Grants.{is_on_draft, of_right}
 use Rattle.rights.proofs.Gathers.{right_more, count_more}
 use Rattle.rights.proofs.gathered.gather.Goals as goal
 
-pub take-in-requires : goal.take-in-requires
-take-in-requires c =
+pub take_in-requires : goal.take_in-requires
+take_in-requires c =
     let grants = c.args.grants.now in
     let i = c.loop-grant.grant-index in (
       omega (arith, c.loop-grant.invariant.2, c.loop-grant-test.true, c.requires),
@@ -22,7 +22,7 @@ pub loop-grant-preserved : goal.loop-grant-preserved
 loop-grant-preserved c =
     let grants = c.args.grants.now in
     let i = c.loop-grant.grant-index in
-    let told = c.take-in.ensures in
+    let told = c.take_in.ensures in
     let blank : GrantRecord = record { draft = 0; right = 0; grantor = 0; account = 0; kind = Denying; serial = 0 } in
     let grant = get_or grants i blank in (
       told.marks ∙ ap (λ ms. ms ++ of_right c.args.draft c.args.right (grant ∷ [])) c.loop-grant.invariant.0 ∙ sym (right_more c.args.draft c.args.right grants i blank c.loop-grant-test.true),

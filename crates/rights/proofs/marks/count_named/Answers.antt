@@ -39,8 +39,8 @@ loop-mark-init c = (
   count_none 512 (member c.none-named.result) c.none-named.ensures,
 )
 
-pub overflow-add-count : goal.overflow-add-count
-overflow-add-count c = omega (arith, c.loop-mark.invariant.1, count_le 512 (member c.loop-mark.named))
+pub overflow_add-count : goal.overflow_add-count
+overflow_add-count c = omega (arith, c.loop-mark.invariant.1, count_le 512 (member c.loop-mark.named))
 
 pub loop-mark-preserved : goal.loop-mark-preserved
 loop-mark-preserved c =

@@ -17,14 +17,14 @@ loop-i-preserved c =
     let within = c.loop-i-test.true in
     λ k m below is.
     ⊎_elim
-    (λ (here : k ≡ i). ap (between c.args.from c.args.to) (at_read marks i blank m within (subst (λ (n : ℕ). At marks n m) here is)) ∙ sym c.if-is-between.ensures)
+    (λ (here : k ≡ i). ap (between c.args.from c.args.to) (at_read marks i blank m within (subst (λ (n : ℕ). At marks n m) here is)) ∙ sym c.if-is_between.ensures)
     (λ other. c.loop-i.invariant k m (omega arith) is)
     (cases_eq k i)
 
-pub returns-then-is-between : goal.returns-then-is-between
-returns-then-is-between c = record {
+pub returns-then-is_between : goal.returns-then-is_between
+returns-then-is_between c = record {
   before = c.loop-i.invariant;
-  here = λ m is. ap (between c.args.from c.args.to) (at_read c.args.marks.now c.loop-i.i blank m c.loop-i-test.true is) ∙ sym c.if-is-between.ensures;
+  here = λ m is. ap (between c.args.from c.args.to) (at_read c.args.marks.now c.loop-i.i blank m c.loop-i-test.true is) ∙ sym c.if-is_between.ensures;
 }
 
 pub returns : goal.returns

@@ -11,20 +11,20 @@ returns c =
     let account_fits = account_short c.from.result (omega arith) in
     let grantor_fits = pair_short c.from-2.result (omega arith) in
     let fits : c.args.at + length account ≤ length c.args.page.now = omega arith in
-    let behind = c.put-number-n.ensures.value fits in
-    let fits_2 : c.put-number-n.result + length word ≤ length c.put-number-n.new.buffer = omega arith in
+    let behind = c.put_number-n.ensures.value fits in
+    let fits_2 : c.put_number-n.result + length word ≤ length c.put_number-n.new.buffer = omega arith in
     let behind_2 = c.put-n.ensures.value fits_2 in
     let fits_3 : c.put-n.result + length grantor ≤ length c.put-n.new.buffer = omega arith in
-    let behind_3 = c.put-number-n-2.ensures.value fits_3 in
-    let fits_4 : c.put-number-n-2.result + 1 ≤ length c.put-number-n-2.new.buffer = omega arith in
+    let behind_3 = c.put_number-n-2.ensures.value fits_3 in
+    let fits_4 : c.put_number-n-2.result + 1 ≤ length c.put_number-n-2.new.buffer = omega arith in
     record {
       bound = omega (arith, c.put.ensures.value fits_4);
       after = λ base front held.
           let written =
           c.put.ensures.after fits_4 base (((front ++ account) ++ word) ++ grantor)
-          (c.put-number-n-2.ensures.after fits_3 base ((front ++ account) ++ word)
+          (c.put_number-n-2.ensures.after fits_3 base ((front ++ account) ++ word)
           (c.put-n.ensures.after fits_2 base (front ++ account)
-          (c.put-number-n.ensures.after fits base front held))) in
+          (c.put_number-n.ensures.after fits base front held))) in
           holds_same
           (append_assoc ((front ++ account) ++ word) grantor (10 ∷ [])
           ∙ append_assoc (front ++ account) word (grantor ++ (10 ∷ []))

@@ -12,8 +12,8 @@ pub loop-account-preserved : goal.loop-account-preserved
 loop-account-preserved c =
     let i = c.loop-account.account in
     let line = λ (a : ℕ). entry a (by_picks c.args.owner c.args.marks.now (picked c.args.picks.now) a) in
-    let told = c.write-entry-at.ensures in (
-      holds_same (ap (λ answer. joined_below i line ++ entry i answer) c.answer-for-answer.ensures ∙ sym (joined_more i line))
+    let told = c.write_entry-at.ensures in (
+      holds_same (ap (λ answer. joined_below i line ++ entry i answer) c.answer_for-answer.ensures ∙ sym (joined_more i line))
           (told.after c.args.page.now (joined_below i line) c.loop-account.invariant.0),
       omega (arith, told.bound, c.loop-account.invariant.1),
     )

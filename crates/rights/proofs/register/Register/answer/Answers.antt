@@ -16,14 +16,14 @@ gather-gathered-requires g c =
     let was = c.args.self.now in
     omega (arith, ap length c.used.ensures, used_within was.grants, was.cells_few)
 
-pub returns-then-not-is-named : goal.returns-then-not-is-named
-returns-then-not-is-named g c =
+pub returns-then-not-is_named : goal.returns-then-not-is_named
+returns-then-not-is_named g c =
     let R = g.R.Ruling.ranking c.args.ruling.now in
     let a = c.args.account in
     let x = c.args.found.now in
     let marks = of_right c.args.draft c.args.right (used c.args.self.now.grants) in
     let same = c.marks-marks.ensures ∙ c.gather-gathered.ensures.marks ∙ ap (of_right c.args.draft c.args.right) c.used.ensures in
-    ap (by_pick marks) (sym (unnamed_settled marks x.owner R x.policy a (ap (λ ms. is_some (first (names a) ms)) (sym same) ∙ sym c.if-not-is-named.ensures)))
+    ap (by_pick marks) (sym (unnamed_settled marks x.owner R x.policy a (ap (λ ms. is_some (first (names a) ms)) (sym same) ∙ sym c.if-not-is_named.ensures)))
     ∙ ap (λ b. cond b (Permitted, Some a) (by_pick marks (settled (lines_of marks) (signs_of marks) x.owner R x.policy a))) (sym (ne_eqb a x.owner c.if-account-found.false))
 
 pub returns : goal.returns

@@ -12,15 +12,15 @@ use Rattle.model.proofs.Obeyed.{refused_reply, refused_next}
 use Rattle.model.proofs.Promised.{refused_to_stay_consistent}
 use Rattle.rights.specs.Contents.{contents}
 use Rattle.rights.proofs.Granting.{grant_put, serial_left, cell_left, grant_told, grant_left}
-use Rattle.rights.proofs.Registers.{still_reached, sound_throughout}
+use Rattle.rights.proofs.Registers.{still_reached, Left, left_fits, left_once, sound_throughout}
 use Rattle.rights.proofs.register.Register.grant.Goals as goal
 
-pub returns-in-err-found : goal.returns-in-err-found
-returns-in-err-found c =
-    let p = err_from_is_err_and c.from-residual.result c.from-residual.ensures.1 in
+pub returns-in_err-found : goal.returns-in_err-found
+returns-in_err-found c =
+    let p = err_from_is_err_and c.from_residual.result c.from_residual.ensures.1 in
     let s = contents c.args.self.now in
     let call = granting c.args.draft c.args.right c.args.caller c.args.account c.args.kind in
-    let told = c.in-err-found.ensures in
+    let told = c.in_err-found.ensures in
     rw (p.1, p.2) (record {
       told = λ R. refused_reply R s call _ (told.refused R);
       left = λ R. refused_next R s call _ (told.refused R);
@@ -31,39 +31,38 @@ returns-in-err-found c =
       about = told.about;
     })
 
-pub overflow-add-serial : goal.overflow-add-serial
-overflow-add-serial c =
-    let told = c.in-ok-found.ensures in
-    omega (arith, serial_left c.args.self.now c.args.draft c.args.right c.args.caller c.args.account c.args.kind c.in-ok-found.found told.found.0 told.refused)
+pub overflow_add-serial : goal.overflow_add-serial
+overflow_add-serial c =
+    let told = c.in_ok-found.ensures in
+    omega (arith, serial_left c.args.self.now c.args.draft c.args.right c.args.caller c.args.account c.args.kind c.in_ok-found.found told.found.0 told.refused)
 
-pub invariant-of-self : goal.invariant-of-self
-invariant-of-self c =
+pub invariant_of-self : goal.invariant_of-self
+invariant_of-self c =
     let was = c.args.self.now in
     let d = c.args.draft in
-    let told = c.in-ok-found.ensures in
-    let x = c.in-ok-found.found in
+    let told = c.in_ok-found.ensures in
+    let x = c.in_ok-found.found in
     let added = c.add-added.ensures in
     let put = c.replace-counted.ensures in
     let fits = cell_left was d c.args.right c.args.caller c.args.account c.args.kind x told.found.0 told.refused in
     let well : is_ok c.add-added.result ≡ true = ap is_ok (added.value ∙ ap (λ b. cond b (Ok tt) (Err Full)) fits) in
-    let grants = added.used ∙ ap (λ b. cond b (used was.grants ++ grant_put d c.args.right c.args.caller c.args.account c.in-ok-found.kind (x.last + 1) ∷ []) (used was.grants)) well in (
-      omega (arith, put.room, was.places_few),
-      (
-        omega (arith, added.room, was.cells_few),
-        (
-          still_reached was house house_lawful (granting d c.args.right c.args.caller c.args.account c.args.kind) _
-              (grant_left was d c.args.right c.args.caller c.args.account c.args.kind x told.found.0 told.refused c.in-ok-found.kind told.found.1 _ _ _ _ put.room added.room put.used grants house),
-          tt,
-        ),
-      ),
-    )
+    let grants = added.used ∙ ap (λ b. cond b (used was.grants ++ grant_put d c.args.right c.args.caller c.args.account c.in_ok-found.kind (x.last + 1) ∷ []) (used was.grants)) well in
+    let reached : Left c.replace-counted.new.self c.add-added.new.self = still_reached was house house_lawful (granting d c.args.right c.args.caller c.args.account c.args.kind) _
+              (grant_left was d c.args.right c.args.caller c.args.account c.args.kind x told.found.0 told.refused c.in_ok-found.kind told.found.1 _ _ _ _ put.room added.room put.used grants house) in
+    record {
+      places_few = omega (arith, put.room, was.places_few);
+      cells_few = omega (arith, added.room, was.cells_few);
+      reservations_fit = left_fits c.replace-counted.new.self c.add-added.new.self reached;
+      drafts_once = left_once c.replace-counted.new.self c.add-added.new.self reached;
+      reached = reached;
+    }
 
-pub returns-in-err-added : goal.returns-in-err-added
-returns-in-err-added c =
+pub returns-in_err-added : goal.returns-in_err-added
+returns-in_err-added c =
     let was = c.args.self.now in
-    let told = c.in-ok-found.ensures in
-    let fits = cell_left was c.args.draft c.args.right c.args.caller c.args.account c.args.kind c.in-ok-found.found told.found.0 told.refused in
-    let well = sym c.in-err-added.was ∙ c.add-added.ensures.value ∙ ap (λ b. cond b (Ok tt) (Err Full)) fits in
+    let told = c.in_ok-found.ensures in
+    let fits = cell_left was c.args.draft c.args.right c.args.caller c.args.account c.args.kind c.in_ok-found.found told.found.0 told.refused in
+    let well = sym c.in_err-added.was ∙ c.add-added.ensures.value ∙ ap (λ b. cond b (Ok tt) (Err Full)) fits in
     let z : ◌≡◌ {A = ℕ} 0 1 = cc in
     absurd (omega arith)
 
@@ -74,13 +73,13 @@ returns c =
     let r = c.args.right in
     let a = c.args.account in
     let k = c.args.kind in
-    let told = c.in-ok-found.ensures in
-    let x = c.in-ok-found.found in
-    let added = c.in-ok-added.ensures in
-    let put = c.in-ok-counted.ensures in
+    let told = c.in_ok-found.ensures in
+    let x = c.in_ok-found.found in
+    let added = c.in_ok-added.ensures in
+    let put = c.in_ok-counted.ensures in
     record {
       told = grant_told was d r c.args.caller a k x told.found.0 told.refused;
-      left = grant_left was d r c.args.caller a k x told.found.0 told.refused c.in-ok-found.kind told.found.1 _ _ _ _ put.room added.room put.used added.used;
+      left = grant_left was d r c.args.caller a k x told.found.0 told.refused c.in_ok-found.kind told.found.1 _ _ _ _ put.room added.room put.used added.used;
       consistent =
           subst (RefusedToStayConsistent (contents was) d r c.args.caller a k) (sym (grant_told was d r c.args.caller a k x told.found.0 told.refused house))
           (refused_to_stay_consistent house (contents was) (sound_throughout was) d r c.args.caller a k);

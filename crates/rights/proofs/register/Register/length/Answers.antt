@@ -20,11 +20,11 @@ gather-gathered-requires c =
     let was = c.args.self.now in
     omega (arith, ap length c.used.ensures, used_within was.grants, was.cells_few)
 
-pub overflow-mul-result : goal.overflow-mul-result
-overflow-mul-result c = omega (arith, c.count-named.ensures, count_le 512 (λ a. is_some (first (names a) c.marks.result.now)))
+pub overflow_mul-result : goal.overflow_mul-result
+overflow_mul-result c = omega (arith, c.count_named.ensures, count_le 512 (λ a. is_some (first (names a) c.marks.result.now)))
 
-pub overflow-add-result : goal.overflow-add-result
-overflow-add-result c = omega (arith, c.count-named.ensures, count_le 512 (λ a. is_some (first (names a) c.marks.result.now)))
+pub overflow_add-result : goal.overflow_add-result
+overflow_add-result c = omega (arith, c.count_named.ensures, count_le 512 (λ a. is_some (first (names a) c.marks.result.now)))
 
 pub returns : goal.returns
 returns c =
@@ -35,10 +35,10 @@ returns c =
     let x = c.in-Some.field-0 in
     let found : draft_of d s ≡ Some x = sym c.in-Some.ensures in
     let marks = of_right d r s.grants in
-    let count : c.count-named.result ≡ named_accounts marks
-    = c.count-named.ensures ∙ ap named_accounts (c.marks.ensures ∙ c.gather-gathered.ensures.marks ∙ ap (of_right d r) c.used.ensures) in
+    let count : c.count_named.result ≡ named_accounts marks
+    = c.count_named.ensures ∙ ap named_accounts (c.marks.ensures ∙ c.gather-gathered.ensures.marks ∙ ap (of_right d r) c.used.ensures) in
     record {
-      refused = sym (rw (passed _ RightTooLarge tt c.in-ok-right-in-range.ensures, found) refl);
+      refused = sym (rw (passed _ RightTooLarge tt c.in_ok-right_in_range.ensures, found) refl);
       enough = λ (R : Ranking). omega (arith, sheet_short marks (sound_throughout was d r x found).between R x, count, ap (λ o. length (sheet_of R s.grants d r o)) found);
       few = omega (arith, count);
       about = tt;

@@ -1,14 +1,13 @@
 use Rattle.std.proofs.Common.{sym, ap, arith}
 use Rattle.model.specs.State.{reserved}
-use Rattle.rights.proofs.Registers.{reservations_fit}
 use Rattle.rights.proofs.register.Register.may_open.Goals as goal
 
-pub cells-reserved-requires : goal.cells-reserved-requires
-cells-reserved-requires g c =
+pub cells_reserved-requires : goal.cells_reserved-requires
+cells_reserved-requires g c =
     let was = c.args.self.now in
-    omega (arith, ap reserved c.used.ensures, reservations_fit was, was.cells_few)
+    omega (arith, ap reserved c.used.ensures, was.reservations_fit, was.cells_few)
 
-pub overflow-add-cells-reserved : goal.overflow-add-cells-reserved
-overflow-add-cells-reserved g c =
+pub overflow_add-cells_reserved : goal.overflow_add-cells_reserved
+overflow_add-cells_reserved g c =
     let was = c.args.self.now in
-    omega (arith, c.cells-reserved.ensures, ap reserved c.used.ensures, reservations_fit was, was.cells_few, c.from.ensures)
+    omega (arith, c.cells_reserved.ensures, ap reserved c.used.ensures, was.reservations_fit, was.cells_few, c.from.ensures)

@@ -1,38 +1,38 @@
 use Rattle.std.proofs.Common.{rules}
 use Rattle.rights.proofs.register.Register.obey.Goals as goal
 
-pub returns-in-err-close : goal.returns-in-err-close
-returns-in-err-close g c =
-    let told = c.in-err-close.ensures.told (g.R.Ruling.ranking c.args.ruling.now) in
-    let left = c.in-err-close.ensures.left (g.R.Ruling.ranking c.args.ruling.now) in
+pub returns-in_err-close-in-Close : goal.returns-in_err-close-in-Close
+returns-in_err-close-in-Close g c =
+    let told = c.in_err-close-in-Close.ensures.told (g.R.Ruling.ranking c.args.ruling.now) in
+    let left = c.in_err-close-in-Close.ensures.left (g.R.Ruling.ranking c.args.ruling.now) in
     search rules
 
-pub returns-in-ok-close : goal.returns-in-ok-close
-returns-in-ok-close g c =
-    let told = c.in-ok-close.ensures.told (g.R.Ruling.ranking c.args.ruling.now) in
-    let left = c.in-ok-close.ensures.left (g.R.Ruling.ranking c.args.ruling.now) in
+pub returns-in_ok-close-in-Close : goal.returns-in_ok-close-in-Close
+returns-in_ok-close-in-Close g c =
+    let told = c.in_ok-close-in-Close.ensures.told (g.R.Ruling.ranking c.args.ruling.now) in
+    let left = c.in_ok-close-in-Close.ensures.left (g.R.Ruling.ranking c.args.ruling.now) in
     search rules
 
-pub returns-in-err-grant : goal.returns-in-err-grant
-returns-in-err-grant g c =
-    let told = c.in-err-grant.ensures.told (g.R.Ruling.ranking c.args.ruling.now) in
-    let left = c.in-err-grant.ensures.left (g.R.Ruling.ranking c.args.ruling.now) in
+pub returns-in_err-grant-in-Grant : goal.returns-in_err-grant-in-Grant
+returns-in_err-grant-in-Grant g c =
+    let told = c.in_err-grant-in-Grant.ensures.told (g.R.Ruling.ranking c.args.ruling.now) in
+    let left = c.in_err-grant-in-Grant.ensures.left (g.R.Ruling.ranking c.args.ruling.now) in
     search rules
 
-pub returns-in-ok-grant : goal.returns-in-ok-grant
-returns-in-ok-grant g c =
-    let told = c.in-ok-grant.ensures.told (g.R.Ruling.ranking c.args.ruling.now) in
-    let left = c.in-ok-grant.ensures.left (g.R.Ruling.ranking c.args.ruling.now) in
+pub returns-in_ok-grant-in-Grant : goal.returns-in_ok-grant-in-Grant
+returns-in_ok-grant-in-Grant g c =
+    let told = c.in_ok-grant-in-Grant.ensures.told (g.R.Ruling.ranking c.args.ruling.now) in
+    let left = c.in_ok-grant-in-Grant.ensures.left (g.R.Ruling.ranking c.args.ruling.now) in
     search rules
 
-pub returns-in-err-withdraw : goal.returns-in-err-withdraw
-returns-in-err-withdraw g c =
-    let told = c.in-err-withdraw.ensures.told (g.R.Ruling.ranking c.args.ruling.now) in
-    let left = c.in-err-withdraw.ensures.left (g.R.Ruling.ranking c.args.ruling.now) in
+pub returns-in_err-withdraw-in-Withdraw : goal.returns-in_err-withdraw-in-Withdraw
+returns-in_err-withdraw-in-Withdraw g c =
+    let told = c.in_err-withdraw-in-Withdraw.ensures.told (g.R.Ruling.ranking c.args.ruling.now) in
+    let left = c.in_err-withdraw-in-Withdraw.ensures.left (g.R.Ruling.ranking c.args.ruling.now) in
     search rules
 
-pub returns-in-ok-withdraw : goal.returns-in-ok-withdraw
-returns-in-ok-withdraw g c =
-    let told = c.in-ok-withdraw.ensures.told (g.R.Ruling.ranking c.args.ruling.now) in
-    let left = c.in-ok-withdraw.ensures.left (g.R.Ruling.ranking c.args.ruling.now) in
+pub returns-in_ok-withdraw-in-Withdraw : goal.returns-in_ok-withdraw-in-Withdraw
+returns-in_ok-withdraw-in-Withdraw g c =
+    let told = c.in_ok-withdraw-in-Withdraw.ensures.told (g.R.Ruling.ranking c.args.ruling.now) in
+    let left = c.in_ok-withdraw-in-Withdraw.ensures.left (g.R.Ruling.ranking c.args.ruling.now) in
     search rules

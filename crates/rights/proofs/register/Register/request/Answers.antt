@@ -15,9 +15,9 @@ returns g c =
     let d = c.args.draft in
     let r = c.args.right in
     let a = c.args.account in
-    let asked = c.in-ok-found.ensures in
-    let told = requesting_told R s d r asked.refused c.in-ok-found.found asked.found a
-    (passed _ AccountTooLarge tt c.in-ok-account-in-range.ensures) c.answer.result c.answer.ensures in
+    let asked = c.in_ok-found.ensures in
+    let told = requesting_told R s d r asked.refused c.in_ok-found.found asked.found a
+    (passed _ AccountTooLarge tt c.in_ok-account_in_range.ensures) c.answer.result c.answer.ensures in
     record {
       told = told;
       settled = subst (AnswersByTheList s R d r a) (sym told) (answers_by_the_list s (sound_throughout c.args.self.now) R (g.R.Ruling.laws c.args.ruling.now) d r a);

@@ -8,17 +8,17 @@ use Rattle.rulings.specs.HouseLaws.{house_lawful}
 use Rattle.model.specs.Calls.Call.{withdrawing}
 use Rattle.model.proofs.Obeyed.{refused_reply, refused_next}
 use Rattle.rights.specs.Contents.{contents}
-use Rattle.rights.proofs.Registers.{still_reached}
+use Rattle.rights.proofs.Registers.{still_reached, Left, left_fits, left_once}
 use Rattle.rights.proofs.Withdrawing.{withdrawal_left, withdrawal_told, withdrawal_largest}
 use Rattle.rights.proofs.register.Register.withdraw.Goals as goal
 
-pub returns-in-err-found : goal.returns-in-err-found
-returns-in-err-found c =
-    let p = err_from_is_err_and c.from-residual.result c.from-residual.ensures.1 in
+pub returns-in_err-found : goal.returns-in_err-found
+returns-in_err-found c =
+    let p = err_from_is_err_and c.from_residual.result c.from_residual.ensures.1 in
     let was = c.args.self.now in
     let s = contents was in
     let call = withdrawing c.args.draft c.args.right c.args.caller c.args.account in
-    let told = c.in-err-found.ensures in
+    let told = c.in_err-found.ensures in
     rw (p.1, p.2) (record {
       told = λ R. refused_reply R s call _ (told.refused R);
       left = λ R. refused_next R s call _ (told.refused R);
@@ -27,27 +27,26 @@ returns-in-err-found c =
       about = told.about;
     })
 
-pub invariant-of-self : goal.invariant-of-self
-invariant-of-self c =
+pub invariant_of-self : goal.invariant_of-self
+invariant_of-self c =
     let was = c.args.self.now in
     let d = c.args.draft in
-    let found = c.in-ok-found.ensures in
+    let found = c.in_ok-found.ensures in
     let rule = c.without-rule.result in
     let built = c.without-rule.ensures in
-    let kept = c.retain-fell.ensures in (
-      was.places_few,
-      (
-        omega (arith, kept.room, was.cells_few),
-        (
-          still_reached was house house_lawful (withdrawing d c.args.right c.args.caller c.args.account) _
-              (withdrawal_left was d c.args.right c.args.caller c.args.account c.in-ok-found.found found.found found.refused rule.key rule.owner (member rule.reached) built.key built.owner built.reached _ kept.used _ kept.room house),
-          tt,
-        ),
-      ),
-    )
+    let kept = c.retain-fell.ensures in
+    let reached : Left was.drafts c.retain-fell.new.self = still_reached was house house_lawful (withdrawing d c.args.right c.args.caller c.args.account) _
+              (withdrawal_left was d c.args.right c.args.caller c.args.account c.in_ok-found.found found.found found.refused rule.key rule.owner (member rule.reached) built.key built.owner built.reached _ kept.used _ kept.room house) in
+    record {
+      places_few = was.places_few;
+      cells_few = omega (arith, kept.room, was.cells_few);
+      reservations_fit = left_fits was.drafts c.retain-fell.new.self reached;
+      drafts_once = left_once was.drafts c.retain-fell.new.self reached;
+      reached = reached;
+    }
 
-pub overflow-cast-result : goal.overflow-cast-result
-overflow-cast-result c =
+pub overflow_cast-result : goal.overflow_cast-result
+overflow_cast-result c =
     let was = c.args.self.now in
     omega (arith, c.retain-fell.ensures.value, used_within was.grants, was.cells_few)
 
@@ -57,16 +56,16 @@ returns c =
     let d = c.args.draft in
     let r = c.args.right in
     let a = c.args.account in
-    let found = c.in-ok-found.ensures in
+    let found = c.in_ok-found.ensures in
     let rule = c.without-rule.result in
     let built = c.without-rule.ensures in
     let kept = c.retain-fell.ensures in
-    let told = withdrawal_told was d r c.args.caller a c.in-ok-found.found found.found found.refused rule.key rule.owner (member rule.reached) built.key built.owner built.reached _ kept.used _ kept.value in
-    let left = withdrawal_left was d r c.args.caller a c.in-ok-found.found found.found found.refused rule.key rule.owner (member rule.reached) built.key built.owner built.reached _ kept.used _ kept.room in
+    let told = withdrawal_told was d r c.args.caller a c.in_ok-found.found found.found found.refused rule.key rule.owner (member rule.reached) built.key built.owner built.reached _ kept.used _ kept.value in
+    let left = withdrawal_left was d r c.args.caller a c.in_ok-found.found found.found found.refused rule.key rule.owner (member rule.reached) built.key built.owner built.reached _ kept.used _ kept.room in
     record {
       told = told;
       left = left;
-      largest = withdrawal_largest was d r c.args.caller a c.in-ok-found.found found.found found.refused rule.key rule.owner (member rule.reached) built.key built.owner built.reached _ kept.used _ _ kept.room kept.value;
+      largest = withdrawal_largest was d r c.args.caller a c.in_ok-found.found found.found found.refused rule.key rule.owner (member rule.reached) built.key built.owner built.reached _ kept.used _ _ kept.room kept.value;
       same = λ e. absurd (true≢false e);
       about = tt;
     }

@@ -16,12 +16,12 @@ returns c =
     let gathered = c.gather-gathered.ensures in
     let marks = c.marks-marks.ensures in
     let is = marks ∙ gathered.marks ∙ ap (of_right key.draft key.right) c.used.ensures in
-    let told = c.place-of-at.ensures in
+    let told = c.place_of-at.ensures in
     record {
       key = refl;
       owner = refl;
       reached = λ a.
           reached_without c.args.self.now key.draft key.right key.grantor key.account c.args.found.now c.requires c.marks-marks.result.now is
           (omega (arith, ap length marks, length-take c.gather-gathered.result.len c.gather-gathered.result.marks, gathered.few))
-          c.place-of-at.result told.before told.here _ a (c.search-reached.ensures a);
+          c.place_of-at.result told.before told.here _ a (c.search-reached.ensures a);
     }

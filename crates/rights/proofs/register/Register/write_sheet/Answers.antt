@@ -27,11 +27,11 @@ returns g c =
     let few = gathered_few c.gather-gathered.result c.gather-gathered.ensures.few in
     let settled_here = λ (a : ℕ). c.settle-picks.ensures.value a ∙ settled_all here x.owner R x.policy a (omega (arith, few, ap length c.marks-marks.ensures)) in
     record {
-      bound = c.write-page.ensures.bound;
+      bound = c.write_page.ensures.bound;
       after =
           holds_same
           (joined_same 512 (λ a. entry a (by_picks x.owner here picks a)) (λ a. entry a (by_picks x.owner here (settled (lines_of here) (signs_of here) x.owner R x.policy) a))
           (λ a. ap (λ o. entry a (cond (eqb a x.owner) (Permitted, Some a) (by_pick here o))) (settled_here a))
           ∙ ap (sheet R x) same)
-          c.write-page.ensures.after;
+          c.write_page.ensures.after;
     }

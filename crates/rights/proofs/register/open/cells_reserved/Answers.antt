@@ -14,8 +14,8 @@ loop-draft-preserved c =
     let more = sum_by_more (λ x. x.cells) c.args.drafts.now c.loop-draft.draft-index nobody c.loop-draft-test.true in
     rw (c.loop-draft.invariant, c.from-sum.ensures) (sym more)
 
-pub overflow-add-sum : goal.overflow-add-sum
-overflow-add-sum c =
+pub overflow_add-sum : goal.overflow_add-sum
+overflow_add-sum c =
     let more = sum_by_more (λ x. x.cells) c.args.drafts.now c.loop-draft.draft-index nobody c.loop-draft-test.true in
     omega (arith, more, c.from-sum.ensures, c.loop-draft.invariant, sum_by-take-le (λ x. x.cells) c.args.drafts.now (c.loop-draft.draft-index + 1), c.requires)
 
