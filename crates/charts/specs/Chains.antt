@@ -1,5 +1,5 @@
 -- Chains of lines: who is above whom. Assumes nothing.
-use Rattle.std.specs.Prelude.{◌≡◌, ℕ, zero, suc, ◌<◌, Bool, true, false, ◌&&◌, ◌||◌, List, [], ◌∷◌, length, Some, None, Option, slice_index_or}
+use Rattle.std.specs.Prelude.{◌≡◌, ℕ, ◌<◌, List, Some, None, Option, slice_index_or}
 use Rattle.charts.specs.declared.chart.Line.{Line}
 
 -- the line at a place leads from a to b, and both are accounts

@@ -1,5 +1,5 @@
 -- What the steps of finding who is reached do to what is known of who reaches whom. Assumes nothing.
-use Rattle.std.specs.Prelude.{◌≡◌, ℕ, ◌<◌, Bool, true, false, ◌&&◌, ◌⊎◌, List, Some, None, Option, ◌==◌}
+use Rattle.std.specs.Prelude.{◌≡◌, ℕ, ◌<◌, Bool, true, false, ◌&&◌, ◌⊎◌, List, Some, Option, ◌==◌}
 use Rattle.charts.specs.declared.accounts.Accounts.{Accounts}
 use Rattle.charts.specs.declared.chart.Line.{Line}
 use Rattle.charts.specs.Chains.{Leads, Chain}

@@ -1,4 +1,6 @@
 // Charts: directed graphs by their lines, the accounts that a search reaches, and what a line says.
+#![tactic(auto)]
+
 pub mod above;
 pub mod accounts;
 pub mod chart;

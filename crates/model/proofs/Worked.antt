@@ -1,5 +1,5 @@
 -- The worked examples, by computing. Assumes nothing.
-use Rattle.std.proofs.Common.{◌≡◌, refl}
+use Rattle.std.proofs.Common.{refl}
 use Rattle.model.specs.Examples.{WorkedExamples}
 
 pub worked_examples : WorkedExamples

@@ -1,5 +1,5 @@
 -- A grant that no row refuses. Assumes nothing.
-use Rattle.std.proofs.Common.{◌≡◌, ℕ, ◌+◌, ◌<◌, true, false, List, [], ◌∷◌, ◌++◌, length, Some, None, count_by, Option, sym, refl, ap, ◌∙◌}
+use Rattle.std.proofs.Common.{◌≡◌, ℕ, ◌+◌, ◌<◌, true, List, [], ◌∷◌, ◌++◌, length, Some, None, count_by, sym, ap, ◌∙◌}
 use Rattle.std.proofs.lemmas.Bool.{leb-false, lt-ltb}
 use Rattle.table.specs.Used.{used, room, roomy, replaced}
 use Rattle.terms.specs.declared.Kind.{Kind}
@@ -7,14 +7,13 @@ use Rattle.rulings.specs.House.{house}
 use Rattle.rulings.specs.Ranking.{Ranking}
 use Rattle.model.specs.declared.records.DraftRecord.{DraftRecord}
 use Rattle.model.specs.declared.records.GrantRecord.{GrantRecord}
-use Rattle.model.specs.Calls.{Reply}
 use Rattle.model.specs.Calls.Call.{granting}
 use Rattle.model.specs.Calls.Reply.{granted}
 use Rattle.model.specs.Grants.{is_on_draft}
 use Rattle.model.specs.Keys.{by_draft}
 use Rattle.model.specs.Meaning.{kind_of, next_serial, with_serial, reply, next}
 use Rattle.model.specs.Refusals.{refusal, refusal_table, full, spent}
-use Rattle.model.specs.State.{State, state, draft_of}
+use Rattle.model.specs.State.{state, draft_of}
 use Rattle.model.proofs.Obeyed.{none_holds, obeyed_reply, obeyed_next}
 use Rattle.model.proofs.States.{same_state}
 use Rattle.rights.specs.declared.register.Register.{Register}

@@ -1,6 +1,5 @@
 -- The numbers and layers of the register's faults. Assumes nothing.
 use Rattle.std.specs.Prelude.{◌≡◌, ℕ, cond, ◌||◌, Some, None, Ok, Err, Option, Result, ◌==◌}
-use Rattle.table.specs.declared.TableFault.{TableFault}
 use Rattle.table.specs.declared.TableFault.TheVariants.{Absent, Present, Full}
 use Rattle.rights.specs.declared.faults.Layer.{Layer}
 use Rattle.rights.specs.declared.faults.Layer.TheVariants.{Table, Register}

@@ -1,4 +1,6 @@
 // The register of rights on timetable drafts: its calls, and what they refuse.
+#![tactic(auto)]
+
 mod answering;
 pub mod calls;
 pub mod faults;

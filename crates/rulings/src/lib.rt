@@ -1,5 +1,7 @@
 // Rulings: how two grants to one account rank under a numbered policy. A ruling is known by its ranking
 // alone, so whatever is proved under every lawful ranking holds of each ruling here and of any other.
+#![tactic(auto)]
+
 ghost use Rattle.std.specs.Prelude.{◌≡◌, nat_lt};
 ghost use Rattle.rulings.specs.Ranking.{Ranking, Lawful};
 ghost use Rattle.rulings.specs.House.{house, strictness};

@@ -1,5 +1,5 @@
 -- The computed test of a line says when it is eligible. Assumes nothing.
-use Rattle.std.proofs.Common.{◌≡◌, ℕ, Bool, true, false, not, ◌&&◌, ◌||◌, eqb, ◌⊎◌, List, get_or, Some, None, Option, sym, refl, ap, ◌∙◌, subst, inl, inr, ⊎_elim, arith}
+use Rattle.std.proofs.Common.{◌≡◌, ℕ, true, false, not, ◌&&◌, ◌||◌, eqb, List, get_or, Some, None, Option, sym, refl, ap, ◌∙◌, subst, inl, inr, ⊎_elim}
 use Rattle.std.proofs.lemmas.Bool.{or_cases, or_left, or_right, and_parts, and_from, eqb-true, eq-eqb, not-true, not_from_false, cases_Bool, false≢true, true≢false}
 use Rattle.terms.specs.declared.Kind.{Kind}
 use Rattle.terms.specs.declared.Kind.TheVariants.{Denying, Plain, Delegatable}
@@ -10,7 +10,7 @@ use Rattle.charts.specs.Reaching.{between_accounts}
 use Rattle.charts.specs.Views.{is_delegatable}
 use Rattle.charts.proofs.Shortest.{leads_from, leads_between}
 use Rattle.settlement.specs.Picking.{overridden, may_pass, eligible}
-use Rattle.settlement.specs.Settled.{Overridden, Picks, Passes, Eligible}
+use Rattle.settlement.specs.Settled.{Picks, Eligible}
 use Rattle.settlement.proofs.Overriding.{overridden_word}
 
 kind_delegatable : (k : Kind) → is_delegatable k ≡ true → k ≡ Delegatable

@@ -1,11 +1,11 @@
 -- When a line is overridden: computed, by sets of accounts, and in words. Assumes nothing.
-use Rattle.std.proofs.Common.{◌≡◌, ℕ, Bool, true, false, ◌&&◌, eqb, List, get_or, Some, None, Decides, Option, sym, refl, ap, ◌∙◌, subst}
+use Rattle.std.proofs.Common.{◌≡◌, ℕ, Bool, true, ◌&&◌, eqb, List, get_or, Some, None, Decides, Option, sym, refl, ◌∙◌, subst}
 use Rattle.std.proofs.lemmas.Bool.{and_parts, and_from, eqb-true, eq-eqb}
 use Rattle.std.proofs.lemmas.Bool.Decides.{same_from_decides}
 use Rattle.charts.specs.declared.above.Sources.{Sources}
 use Rattle.charts.specs.declared.chart.Line.{Line}
 use Rattle.charts.specs.Chains.{Leads, Chain}
-use Rattle.charts.specs.Reaching.{above, between_accounts, any_line}
+use Rattle.charts.specs.Reaching.{above, between_accounts}
 use Rattle.charts.specs.Sets.{over}
 use Rattle.charts.proofs.Shortest.{above_decides, any_found, any_holds, leads_from, leads_between}
 use Rattle.settlement.specs.Picking.{overridden, Flagged}

@@ -1,10 +1,10 @@
 -- On a chart without circles each account has a rank that rises along every line: the number of lines that lead
 -- to it or to an account above it. Assumes nothing.
-use Rattle.std.proofs.Common.{◌≡◌, ℕ, zero, suc, ◌+◌, ◌<◌, ◌≤◌, Bool, true, false, cond, ◌&&◌, ◌||◌, eqb, List, [], ◌∷◌, length, get_or, Some, None, Option, sym, refl, ap, ◌∙◌, subst, inl, inr, ⊎_elim, arith}
+use Rattle.std.proofs.Common.{◌≡◌, ℕ, zero, suc, ◌+◌, ◌<◌, ◌≤◌, Bool, true, false, cond, ◌||◌, eqb, List, [], ◌∷◌, length, get_or, Some, None, Option, sym, refl, ap, subst, ⊎_elim, arith}
 use Rattle.std.proofs.lemmas.Bool.{or_cases, or_left, or_right, eqb-true, eq-eqb, cases_Bool, true≢false}
 use Rattle.charts.specs.declared.chart.Line.{Line}
 use Rattle.charts.specs.Chains.{Leads, Chain, NoCircle}
-use Rattle.charts.specs.Chains.Chain.{one, on}
+use Rattle.charts.specs.Chains.Chain.{one}
 use Rattle.charts.specs.Reaching.{above}
 use Rattle.charts.proofs.Following.{snoc}
 use Rattle.charts.proofs.Shortest.{above_decides}

@@ -1,15 +1,14 @@
 -- On a chart without circles the computed picks are a settled list, and no other is. Assumes nothing.
-use Rattle.std.proofs.Common.{◌≡◌, ℕ, zero, suc, ◌<◌, ◌≤◌, Bool, true, false, cond, eqb, ◌⊎◌, List, length, get_or, Some, None, Option, sym, refl, ap, ◌∙◌, subst, inl, inr, ⊎_elim, arith}
+use Rattle.std.proofs.Common.{◌≡◌, ℕ, zero, suc, ◌<◌, ◌≤◌, Bool, true, cond, eqb, ◌⊎◌, List, length, get_or, Some, None, Option, sym, refl, ap, ◌∙◌, subst, inl, inr, ⊎_elim, arith}
 use Rattle.std.proofs.lemmas.Bool.{eq-eqb, ne_eqb, cases_eq}
 use Rattle.rulings.specs.Ranking.{Ranking, Lawful}
 use Rattle.charts.specs.declared.chart.Line.{Line}
 use Rattle.charts.specs.declared.chart.Sign.{Sign}
 use Rattle.charts.specs.Chains.{Leads, NoCircle}
-use Rattle.charts.specs.Reaching.{between_accounts}
 use Rattle.charts.proofs.Found.{leads_within}
 use Rattle.charts.proofs.Shortest.{leads_from}
 use Rattle.settlement.specs.Picking.{eligible, better, best, repicked, rounds, settled}
-use Rattle.settlement.specs.Settled.{Picks, Passes, Eligible, Settled, OneEach, claim_at, from_of}
+use Rattle.settlement.specs.Settled.{Picks, Eligible, Settled, OneEach, claim_at, from_of}
 use Rattle.settlement.proofs.Bests.{best_some, best_none, best_beats}
 use Rattle.settlement.proofs.Eligibility.{eligible_word, eligible_computed, eligible_local}
 use Rattle.settlement.proofs.Ranks.{rank, rank_within, rank_rises}

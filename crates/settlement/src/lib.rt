@@ -1,4 +1,6 @@
 // Settlement: which line of a signed chart decides for each account, under a ruling.
+#![tactic(auto)]
+
 mod candidates;
 mod overrides;
 pub mod picks;

@@ -1,5 +1,5 @@
 -- What a table holds, and what its calls look for. Assumes nothing.
-use Rattle.std.specs.Prelude.{◌≡◌, ℕ, ◌+◌, Bool, true, false, cond, List, [], ◌∷◌, length, take, Some, None, Option, nat_lt}
+use Rattle.std.specs.Prelude.{ℕ, ◌+◌, Bool, cond, List, [], ◌∷◌, length, take, Some, None, Option, nat_lt}
 use Rattle.table.specs.declared.Table.{Table}
 
 -- all cells lent to the table, used or not

@@ -4,6 +4,8 @@
 // Contracts speak of the list of records in use and of all cells: those beyond what a call names keep
 // what they held. Whatever looks for a key or removes costs one pass over the records in use, the rest
 // a step.
+#![tactic(auto)]
+
 ghost use Rattle.std.specs.Prelude.{◌≡◌, ◌+◌, ◌<◌, ◌≤◌, Bool, not, [], ◌∷◌, ◌++◌, length, take, drop, is_some, IfSome, is_ok, cond, if◌then◌else◌, Ok, Err, filter, slice_set};
 ghost use Rattle.table.specs.Used.{cells, room, used, roomy, first, replaced, place};
 

@@ -1,5 +1,6 @@
 // The words that every layer shares: what a grant does, what a ruling looks at in a grant, and the
 // limits of the register.
+#![tactic(auto)]
 
 // What a grant does: it denies the right, gives it, or gives it together with the leave to grant it on.
 #[derive(Clone, Copy)]

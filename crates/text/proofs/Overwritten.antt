@@ -1,7 +1,7 @@
 -- A buffer as text is written into it. Assumes nothing.
-use Rattle.std.proofs.Common.{◌≡◌, ℕ, ◌+◌, List, [], ◌∷◌, ◌++◌, length, take, drop, sym, refl, ap, ◌∙◌, subst, arith}
+use Rattle.std.proofs.Common.{◌≡◌, ℕ, ◌+◌, List, [], ◌++◌, length, take, drop, sym, refl, ap, ◌∙◌, subst, arith}
 use Rattle.std.proofs.lemmas.List.{append_assoc, length-append, take_at, drop_at, drop-drop}
-use Rattle.text.specs.Text.{Holds, over}
+use Rattle.text.specs.Text.{Holds}
 
 -- nothing is written yet
 pub holds_none : (base : List ℕ) → Holds base [] 0 base

@@ -1,4 +1,6 @@
 // Text, put into a buffer piece by piece. What lies behind the text keeps its contents.
+#![tactic(auto)]
+
 ghost use Rattle.std.specs.Prelude.{◌≡◌, ℕ, ◌+◌, ◌<◌, ◌≤◌, List, ◌++◌, length, decimal, nat_le};
 ghost use Rattle.text.specs.Text.{Holds};
 

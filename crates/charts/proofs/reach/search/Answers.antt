@@ -1,6 +1,5 @@
-use Rattle.std.proofs.Common.{ℕ, true, false, eqb, sym, refl, ◌∙◌, subst, arith}
+use Rattle.std.proofs.Common.{eqb, sym, refl, ◌∙◌, arith}
 use Rattle.std.proofs.lemmas.Bool.{and_parts, and_from, eq-eqb, eqb-true, false≢true}
-use Rattle.charts.specs.Chains.{Chain}
 use Rattle.charts.specs.Members.{member}
 use Rattle.charts.specs.Passes.{reached_from, Is}
 use Rattle.charts.proofs.Found.{missing_less, all_found, chain_from_account}

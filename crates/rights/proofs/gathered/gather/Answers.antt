@@ -1,4 +1,4 @@
-use Rattle.std.proofs.Common.{◌≡◌, ◌+◌, [], ◌∷◌, ◌++◌, length, get_or, take, count_by, sym, refl, ap, ◌∙◌, arith, lit≤}
+use Rattle.std.proofs.Common.{◌+◌, [], ◌∷◌, ◌++◌, get_or, take, count_by, sym, refl, ap, ◌∙◌, arith, lit≤}
 use Rattle.terms.specs.declared.Kind.TheVariants.{Denying}
 use Rattle.model.specs.declared.records.GrantRecord.{GrantRecord}
 use Rattle.std.proofs.lemmas.List.{take_all, length-take}

@@ -1,4 +1,4 @@
-use Rattle.std.proofs.Common.{◌≡◌, is_some, sym, ap, ◌∙◌}
+use Rattle.std.proofs.Common.{is_some, sym, ap}
 use Rattle.model.specs.Delegation.{passes_to}
 use Rattle.rights.proofs.Firsts.{first_more, first_here, first_all}
 use Rattle.rights.proofs.marks.is_passed_to.Goals as goal

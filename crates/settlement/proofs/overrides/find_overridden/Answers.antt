@@ -1,8 +1,7 @@
-use Rattle.std.proofs.Common.{◌≡◌, ℕ, ◌<◌, Bool, true, false, length, get_or, set, Some, None, Option, sym, ap, ◌∙◌, subst, ⊎_elim, arith}
+use Rattle.std.proofs.Common.{◌≡◌, false, get_or, set, None, Option, sym, ap, ◌∙◌, subst, ⊎_elim, arith}
 use Rattle.std.proofs.lemmas.List.{get_or-set_same, get_or-set_other, length-set}
 use Rattle.std.proofs.lemmas.Bool.{cases_eq, cases_lt}
 use Rattle.charts.specs.declared.chart.Line.{Line}
-use Rattle.charts.specs.Chains.{Leads}
 use Rattle.charts.proofs.Found.{leads_within}
 use Rattle.charts.proofs.Shortest.{leads_from}
 use Rattle.settlement.specs.Picking.{Flagged}

@@ -1,4 +1,4 @@
-use Rattle.std.proofs.Common.{◌≡◌, ℕ, Bool, true, false, cond, eqb, length, get_or, Some, None, Option, sym, refl, ap, ◌∙◌, arith}
+use Rattle.std.proofs.Common.{◌≡◌, ℕ, Bool, true, false, cond, eqb, length, get_or, None, Option, refl, ap, ◌∙◌, arith}
 use Rattle.settlement.specs.Picked.{picked}
 use Rattle.settlement.specs.Picking.{eligible, better, best}
 use Rattle.settlement.proofs.Rounds.{best_more}

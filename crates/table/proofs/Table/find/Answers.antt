@@ -1,4 +1,4 @@
-use Rattle.std.proofs.Common.{Some, sym, refl, ap, ◌∙◌}
+use Rattle.std.proofs.Common.{Some, sym, ap, ◌∙◌}
 use Rattle.table.specs.Used.{first}
 use Rattle.table.proofs.Places.{first_at, found_nowhere}
 use Rattle.table.proofs.Table.find.Goals as goal

@@ -1,4 +1,4 @@
-use Rattle.std.proofs.Common.{◌≡◌, ℕ, ◌&&◌, ◌||◌, eqb, ltb, get_or, set, Option, sym, ap, ◌∙◌, subst, arith}
+use Rattle.std.proofs.Common.{◌&&◌, ◌||◌, eqb, ltb, get_or, set, Option, sym, ap, ◌∙◌, arith}
 use Rattle.charts.specs.declared.chart.Line.{Line}
 use Rattle.charts.specs.Members.{member}
 use Rattle.charts.specs.Sets.{over, joins, nobody}

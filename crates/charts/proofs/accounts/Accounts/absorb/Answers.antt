@@ -1,6 +1,6 @@
-use Rattle.std.proofs.Common.{get_or, sym, ◌∙◌, subst, arith}
+use Rattle.std.proofs.Common.{get_or, arith}
 use Rattle.std.proofs.lemmas.Nat.{or_lt}
-use Rattle.charts.proofs.Words.{Joining, joining_same, joining_new, joined_holds, joined_new, joined_same}
+use Rattle.charts.proofs.Words.{joining_same, joining_new, joined_holds, joined_new, joined_same}
 use Rattle.charts.proofs.accounts.Accounts.absorb.Goals as goal
 use Rattle.charts.proofs.accounts.Accounts.absorb.Goals.{then-joined-word, else-joined-word}
 

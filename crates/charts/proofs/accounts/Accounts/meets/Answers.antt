@@ -1,4 +1,4 @@
-use Rattle.std.proofs.Common.{get_or, sym, refl, ◌∙◌, arith}
+use Rattle.std.proofs.Common.{get_or, refl, arith}
 use Rattle.std.proofs.lemmas.Bool.{false≢true}
 use Rattle.std.proofs.lemmas.Nat.{and_le_l}
 use Rattle.charts.proofs.Words.{apart, common}

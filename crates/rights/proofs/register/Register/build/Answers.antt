@@ -1,4 +1,4 @@
-use Rattle.std.proofs.Common.{sym, refl, ap, subst, rules}
+use Rattle.std.proofs.Common.{sym, refl, subst, rules}
 use Rattle.table.specs.Used.{room}
 use Rattle.model.specs.History.{Reached}
 use Rattle.model.proofs.States.{same_state}

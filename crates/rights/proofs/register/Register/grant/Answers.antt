@@ -5,7 +5,6 @@ use Rattle.table.specs.declared.TableFault.TheVariants.{Full}
 use Rattle.table.specs.Used.{used}
 use Rattle.rulings.specs.House.{house}
 use Rattle.rulings.specs.HouseLaws.{house_lawful}
-use Rattle.rulings.specs.Ranking.{Ranking}
 use Rattle.model.specs.Calls.Call.{granting}
 use Rattle.model.specs.Promises.{RefusedToStayConsistent}
 use Rattle.model.proofs.Obeyed.{refused_reply, refused_next}
@@ -48,7 +47,7 @@ invariant_of-self c =
     let well : is_ok c.add-added.result ≡ true = ap is_ok (added.value ∙ ap (λ b. cond b (Ok tt) (Err Full)) fits) in
     let grants = added.used ∙ ap (λ b. cond b (used was.grants ++ grant_put d c.args.right c.args.caller c.args.account c.in_ok-found.kind (x.last + 1) ∷ []) (used was.grants)) well in
     let reached : Left c.replace-counted.new.self c.add-added.new.self = still_reached was house house_lawful (granting d c.args.right c.args.caller c.args.account c.args.kind) _
-              (grant_left was d c.args.right c.args.caller c.args.account c.args.kind x told.found.0 told.refused c.in_ok-found.kind told.found.1 _ _ _ _ put.room added.room put.used grants house) in
+    (grant_left was d c.args.right c.args.caller c.args.account c.args.kind x told.found.0 told.refused c.in_ok-found.kind told.found.1 _ _ _ _ put.room added.room put.used grants house) in
     record {
       places_few = omega (arith, put.room, was.places_few);
       cells_few = omega (arith, added.room, was.cells_few);

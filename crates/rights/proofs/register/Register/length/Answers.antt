@@ -1,5 +1,5 @@
 use Rattle.std.proofs.Common.{◌≡◌, length, is_some, Some, sym, refl, ap, ◌∙◌, arith}
-use Rattle.table.specs.Used.{used, first}
+use Rattle.table.specs.Used.{first}
 use Rattle.table.proofs.Cells.{used_within}
 use Rattle.rulings.specs.Ranking.{Ranking}
 use Rattle.model.specs.Grants.{of_right}

@@ -1,4 +1,4 @@
-use Rattle.std.proofs.Common.{sym, ap, arith}
+use Rattle.std.proofs.Common.{ap, arith}
 use Rattle.model.specs.State.{reserved}
 use Rattle.rights.proofs.register.Register.may_open.Goals as goal
 

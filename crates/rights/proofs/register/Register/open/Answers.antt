@@ -21,9 +21,9 @@ invariant_of-self g c =
     let added = c.add.ensures in
     let opened : DraftRecord = record { draft = c.args.draft; owner = c.args.owner; policy = c.args.policy; cells = c.args.cells; last = 0 } in
     let reached : Left c.add.new.self was.grants = elim (is_ok c.add.result) as (λ b. used c.add.new.self ≡ cond b (used was.drafts ++ opened ∷ []) (used was.drafts) → ∥ Reached (state (room c.add.new.self) (room was.grants) (used c.add.new.self) (used was.grants)) ∥₁) [
-            | true ↦ λ is. still_reached was R (g.R.Ruling.laws c.args.ruling.now) call _ (same_state added.room refl is refl ∙ obeyed_next R s call none)
-            | false ↦ λ is. subst (λ x. ∥ Reached x ∥₁) (same_state (sym added.room) refl (sym is) refl) was.reached
-          ] added.used in
+      | true ↦ λ is. still_reached was R (g.R.Ruling.laws c.args.ruling.now) call _ (same_state added.room refl is refl ∙ obeyed_next R s call none)
+      | false ↦ λ is. subst (λ x. ∥ Reached x ∥₁) (same_state (sym added.room) refl (sym is) refl) was.reached
+    ] added.used in
     record {
       places_few = omega (arith, added.room, was.places_few);
       cells_few = was.cells_few;

@@ -36,7 +36,7 @@ invariant_of-self c =
     let built = c.without-rule.ensures in
     let kept = c.retain-fell.ensures in
     let reached : Left was.drafts c.retain-fell.new.self = still_reached was house house_lawful (withdrawing d c.args.right c.args.caller c.args.account) _
-              (withdrawal_left was d c.args.right c.args.caller c.args.account c.in_ok-found.found found.found found.refused rule.key rule.owner (member rule.reached) built.key built.owner built.reached _ kept.used _ kept.room house) in
+    (withdrawal_left was d c.args.right c.args.caller c.args.account c.in_ok-found.found found.found found.refused rule.key rule.owner (member rule.reached) built.key built.owner built.reached _ kept.used _ kept.room house) in
     record {
       places_few = was.places_few;
       cells_few = omega (arith, kept.room, was.cells_few);

@@ -1,5 +1,4 @@
 use Rattle.std.proofs.Common.{ℕ, cond, eqb, length, Some, ap, ◌∙◌, arith}
-use Rattle.table.specs.Used.{used}
 use Rattle.table.proofs.Cells.{used_within}
 use Rattle.settlement.specs.Picked.{picked}
 use Rattle.settlement.specs.Picking.{settled}
