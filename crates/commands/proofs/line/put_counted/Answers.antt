@@ -10,8 +10,8 @@ returns c =
     let behind_word = c.put-n.ensures.value word_fits in
     let number_fits : c.put-n.result + length (decimal c.from.result) ≤ length c.put-n.new.buffer = omega arith in
     record {
-      bound = omega (arith, c.put-number.ensures.value number_fits);
+      bound = omega (arith, c.put_number.ensures.value number_fits);
       after = λ base front held.
           holds_same (append_assoc front c.args.word.now (decimal c.from.result) ∙ ap (λ k. front ++ (c.args.word.now ++ decimal k)) c.from.ensures)
-          (c.put-number.ensures.after number_fits base (front ++ c.args.word.now) (c.put-n.ensures.after word_fits base front held));
+          (c.put_number.ensures.after number_fits base (front ++ c.args.word.now) (c.put-n.ensures.after word_fits base front held));
     }

@@ -14,8 +14,8 @@ returns c =
     let word_fits : c.args.at + 8 ≤ length c.args.buffer.now = omega arith in
     let behind_word = c.put-n.ensures.value word_fits in
     let number_fits : c.put-n.result + length digits ≤ length c.put-n.new.buffer = omega arith in
-    let behind_number = c.put-number-n.ensures.value number_fits in
-    let space_fits : c.put-number-n.result + 1 ≤ length c.put-number-n.new.buffer = omega arith in
+    let behind_number = c.put_number-n.ensures.value number_fits in
+    let space_fits : c.put_number-n.result + 1 ≤ length c.put_number-n.new.buffer = omega arith in
     let behind_space = c.put-n-2.ensures.value space_fits in
     let end_fits : c.put-n-2.result + length layer ≤ length c.put-n-2.new.buffer = omega arith in
     record {
@@ -26,7 +26,7 @@ returns c =
           let written =
           c.put.ensures.after end_fits base ((word ++ digits) ++ codes " ")
           (c.put-n-2.ensures.after space_fits base (word ++ digits)
-          (c.put-number-n.ensures.after number_fits base word (c.put-n.ensures.after word_fits base front held))) in
+          (c.put_number-n.ensures.after number_fits base word (c.put-n.ensures.after word_fits base front held))) in
           holds_same
           (append_assoc (word ++ digits) (codes " ") layer
           ∙ append_assoc word digits (codes " " ++ layer)

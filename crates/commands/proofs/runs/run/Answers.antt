@@ -16,7 +16,7 @@ loop-told-init g c =
     let R = g.R.Ruling.ranking c.args.ruling.now in
     let stream = counted c.args.input.now in
     let s = contents c.args.register.now in
-    let made = c.in-ok-out.ensures in
+    let made = c.in_ok-out.ensures in
     let long = counted_length c.args.input.now c.min-end.result c.min-end.ensures in
     (subst (λ out. UnderWay R stream s s 0 out) (sym made.items) (begins R stream s), omega (arith, made.capacity, long), refl)
 
@@ -28,19 +28,19 @@ loop-told-smaller g c =
     let line = line_told stream at (length c.loop-told.line) (line_at R (contents c.loop-told.register) stream at) c.in-Line.length c.in-Line.next (ap Ok (sym c.in-Line.is) ∙ c.in-Ok.ensures.value) in
     omega (arith, line.0, line.2, next_further stream at line.0)
 
-pub returns-in-err-out : goal.returns-in-err-out
-returns-in-err-out g c =
-    let p = err_from_is_err_and c.from-residual.result c.from-residual.ensures.1 in
+pub returns-in_err-out : goal.returns-in_err-out
+returns-in_err-out g c =
+    let p = err_from_is_err_and c.from_residual.result c.from_residual.ensures.1 in
     rw p.1 (record { value = tt; left = refl; same = λ _. refl; law = law })
 
-pub returns-in-err-extend-from-slice : goal.returns-in-err-extend-from-slice
-returns-in-err-extend-from-slice g c =
+pub returns-in_err-extend_from_slice : goal.returns-in_err-extend_from_slice
+returns-in_err-extend_from_slice g c =
     let R = g.R.Ruling.ranking c.args.ruling.now in
     let stream = counted c.args.input.now in
     let at = c.loop-told.at in
     let line = line_told stream at (length c.loop-told.line) (line_at R (contents c.loop-told.register) stream at) c.in-Line.length c.in-Line.next (ap Ok (sym c.in-Line.is) ∙ c.in-Ok.ensures.value) in
     let short : c.in-Line.length ≤ 32 = omega (arith, c.in-Ok.ensures.bound, ap (λ t. line_length (Ok t)) c.in-Line.is) in
-    absurd (omega (arith, c.in-err-extend-from-slice.ensures.full, length-take (c.in-Line.length - 0) c.step.new.buffer, short, c.loop-told.invariant.0.short, c.loop-told.invariant.1, line.0, c.loop-told.out.ok.0))
+    absurd (omega (arith, c.in_err-extend_from_slice.ensures.full, length-take (c.in-Line.length - 0) c.step.new.buffer, short, c.loop-told.invariant.0.short, c.loop-told.invariant.1, line.0, c.loop-told.out.ok.0))
 
 pub loop-told-preserved : goal.loop-told-preserved
 loop-told-preserved g c =
@@ -59,7 +59,7 @@ loop-told-preserved g c =
     let short : length piece ≤ 32 = omega (arith, length-take (n - 0) c.step.new.buffer, told.bound, ap (λ t. line_length (Ok t)) c.in-Line.is) in
     let left = told.left ∙ ap (λ t. if_line (Ok t) (carried R s (command_at stream at)) s) c.in-Line.is in
     let further = goes_on R stream c.loop-told.invariant.0 line.0 piece (contents c.step.new.register) short is_text left in
-    let extended = c.in-ok-extend-from-slice.ensures in
+    let extended = c.in_ok-extend_from_slice.ensures in
     let start = contents c.args.register.now in (
       subst (λ out. UnderWay R stream start (contents c.step.new.register) c.in-Line.next out) (sym extended.items)
           (subst (λ k. UnderWay R stream start (contents c.step.new.register) k (vec_items c.loop-told.out ++ piece)) (sym line.2) further),
@@ -67,18 +67,18 @@ loop-told-preserved g c =
       omega arith,
     )
 
-pub returns-in-default-told : goal.returns-in-default-told
-returns-in-default-told g c =
+pub returns-in_default-told : goal.returns-in_default-told
+returns-in_default-told g c =
     let R = g.R.Ruling.ranking c.args.ruling.now in
     let stream = counted c.args.input.now in
     let at = c.loop-told.at in
     let s = contents c.loop-told.register in
     let told = c.in-Ok.ensures in
-    let past = finished_told stream at (length c.loop-told.line) (line_at R s stream at) (ap Ok (sym c.in-default-told.is) ∙ told.value) in
+    let past = finished_told stream at (length c.loop-told.line) (line_at R s stream at) (ap Ok (sym c.in_default-told.is) ∙ told.value) in
     let whole = ends R stream c.loop-told.invariant.0 past in
     record {
       value = whole.0;
-      left = told.left ∙ ap (λ t. if_line (Ok t) (carried R s (command_at stream at)) s) c.in-default-told.is ∙ whole.1;
+      left = told.left ∙ ap (λ t. if_line (Ok t) (carried R s (command_at stream at)) s) c.in_default-told.is ∙ whole.1;
       same = λ e. absurd (true≢false e);
       law = law;
     }
