@@ -9,16 +9,16 @@ use Rattle.rights.specs.Faults.{replied}
 use Rattle.replay.specs.Replays.{call_made}
 use Rattle.replay.proofs.make.Goals as goal
 
-pub returns-in-ok-page : goal.returns-in-ok-page
-returns-in-ok-page g c =
+pub returns-in_ok-page-in-Sheet : goal.returns-in_ok-page-in-Sheet
+returns-in_ok-page-in-Sheet g c =
     let R = g.R.Ruling.ranking c.args.ruling.now in
     let s = contents c.args.register.now in
     let d = c.in-Sheet.draft in
     let r = c.in-Sheet.right in
-    let page = c.in-ok-page.page in
+    let page = c.in_ok-page-in-Sheet.page in
     let after = c.sheet-told.new.buffer in
-    let long : length after ≡ page.len = omega (arith, c.sheet-told.auto.buffer, c.deref-mut.ensures.len) in
-    let zeros = c.deref-mut.ensures.value ∙ c.in-ok-page.ensures.items-if-clones-equal (λ y same. same) in
+    let long : length after ≡ page.len = omega (arith, c.sheet-told.auto.buffer, c.deref_mut.ensures.len) in
+    let zeros = c.deref_mut.ensures.value ∙ c.in_ok-page-in-Sheet.ensures.items_if_clones_equal (λ y same. same) in
     record {
       told =
           ap (λ items. replied (λ n. listed n items) c.sheet-told.result) (with_items_is page after long)

@@ -21,25 +21,25 @@ loop-made-preserved g c =
     let h = history_of g.R.Ruling.ranking g.R.Ruling.laws steps in
     let i = c.loop-made.made-index in
     let m = f c.made-item.result in
-    let told = c.in-ok-make.ensures in
+    let told = c.in_ok-make.ensures in
     let is = made_at f steps i c.made-item.result c.loop-made-test.true c.made-item.is in
     let within : i < length h = omega (arith, length-map steps f) in
     let s = contents c.loop-made.register in
     let start = contents c.args.register.now in
-    let pushed = ap (map said) c.in-ok-push.ensures.items ∙ map_push said (vec_items c.loop-made.replies) c.in-ok-make.field-0 in (
+    let pushed = ap (map said) c.in_ok-push.ensures.items ∙ map_push said (vec_items c.loop-made.replies) c.in_ok-make.field-0 in (
       ap (λ front. front ++ replies (contents c.make.new.register) (drop (i + 1) h)) pushed
-          ∙ replied_more h start s (contents c.make.new.register) i m within is told.left (map said (vec_items c.loop-made.replies)) (said c.in-ok-make.field-0) told.told c.loop-made.invariant.0,
+          ∙ replied_more h start s (contents c.make.new.register) i m within is told.left (map said (vec_items c.loop-made.replies)) (said c.in_ok-make.field-0) told.told c.loop-made.invariant.0,
       left_more h start s (contents c.make.new.register) i m within is told.left c.loop-made.invariant.1,
     )
 
-pub returns-in-err-make : goal.returns-in-err-make
-returns-in-err-make g c =
-    let p = err_from_is_err_and c.from-residual.result c.from-residual.ensures.1 in
-    rw p.1 (record { replies = tt; left = (c.loop-made.made-index, c.in-err-make.ensures.left ∙ c.loop-made.invariant.1); law = law; examples = worked_examples })
+pub returns-in_err-make : goal.returns-in_err-make
+returns-in_err-make g c =
+    let p = err_from_is_err_and c.from_residual.result c.from_residual.ensures.1 in
+    rw p.1 (record { replies = tt; left = (c.loop-made.made-index, c.in_err-make.ensures.left ∙ c.loop-made.invariant.1); law = law; examples = worked_examples })
 
-pub returns-in-err-push : goal.returns-in-err-push
-returns-in-err-push g c =
-    let p = err_from_is_err_and c.from-residual-in-err-push.result c.from-residual-in-err-push.ensures.1 in
+pub returns-in_err-push : goal.returns-in_err-push
+returns-in_err-push g c =
+    let p = err_from_is_err_and c.from_residual-in_err-push.result c.from_residual-in_err-push.ensures.1 in
     let f = made_by g.R.Ruling.ranking g.R.Ruling.laws in
     let steps = c.args.history.now in
     let h = history_of g.R.Ruling.ranking g.R.Ruling.laws steps in
@@ -48,7 +48,7 @@ returns-in-err-push g c =
     let within : i < length h = omega (arith, length-map steps f) in
     rw p.1 (record {
       replies = tt;
-      left = (i + 1, left_more h (contents c.args.register.now) (contents c.loop-made.register) (contents c.make.new.register) i (f c.made-item.result) within is c.in-ok-make.ensures.left c.loop-made.invariant.1);
+      left = (i + 1, left_more h (contents c.args.register.now) (contents c.loop-made.register) (contents c.make.new.register) i (f c.made-item.result) within is c.in_ok-make.ensures.left c.loop-made.invariant.1);
       law = law;
       examples = worked_examples;
     })
