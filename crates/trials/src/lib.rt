@@ -178,6 +178,26 @@ mod tests {
         )
     }
 
+    // The owner of draft 7 grants on to 2 and 3; 2 permits 4 and 3 denies it, and policy 1 lets the denial stand. Account 4
+    // may not grant. With the grant to 2 falls what 2 granted.
+    #[test]
+    fn grants_are_passed_on_and_withdrawn(rt: HostRuntime) -> Result<(), Fail> {
+        let mut places = [DraftRecord::BLANK; 1];
+        let mut cells = [GrantRecord::BLANK; 8];
+        let mut register = Register::build(&mut places, &mut cells);
+        writes(
+            &rt,
+            rt.alloc(),
+            &mut register,
+            &[
+                1, 0, 7, 0, 1, 1, 0, 8, 3, 0, 7, 0, 0, 1, 0, 2, 2, 3, 0, 7, 0, 0, 1, 0, 3, 2, 3, 0,
+                7, 0, 0, 2, 0, 4, 1, 3, 0, 7, 0, 0, 3, 0, 4, 0, 6, 0, 7, 0, 0, 4, 3, 0, 7, 0, 0, 4,
+                0, 1, 0, 4, 0, 7, 0, 0, 1, 0, 2, 6, 0, 7, 0, 0, 4,
+            ],
+            b"0 done\n8 granted 1\n17 granted 2\n26 granted 3\n35 granted 4\n44 denied 3\n50 refused 11 register\n59 withdrawn 2\n67 denied 3\n",
+        )
+    }
+
     // The same grant of two rights on one draft and of one right on another: each goes alone.
     #[test]
     fn rights_and_drafts_are_apart(rt: HostRuntime) -> Result<(), Fail> {

@@ -47,12 +47,12 @@ fn a_history_is_replayed(rt: HostRuntime) -> Result<(), Fail> {
     assert_eq!(rt; replies.len(), 3);
     match replies.last() {
         Some(Replied::Sheet(Ok(25), page)) => {
-            assert_eq!(rt; page.as_slice(), b"1 permitted 1\n2 denied 1\n\0\0\0");
+            assert_eq!(rt;
+                page.as_slice(),
+                b"1 permitted 1\n2 denied 1\n\0\0\0".as_slice()
+            );
             Ok(())
         }
-        _ => {
-            assert!(rt; false);
-            Ok(())
-        },
+        _ => Err(Fail::new("the last reply is no sheet")),
     }
 }
