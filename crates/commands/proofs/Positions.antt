@@ -1,5 +1,5 @@
 -- Where a stream goes on behind a command. Assumes nothing.
-use Rattle.std.proofs.Common.{◌≡◌, ℕ, suc, ◌+◌, ◌-◌, ◌<◌, ◌≤◌, min, Bool, true, false, cond, eqb, leb, List, [], ◌∷◌, length, take, drop, is_ok, Ok, Err, Result, sym, refl, ap, ◌∙◌, ⊎_elim, arith}
+use Rattle.std.proofs.Common.{◌≡◌, ℕ, ◌-◌, ◌<◌, ◌≤◌, min, Bool, true, false, cond, eqb, leb, List, [], ◌∷◌, length, take, drop, is_ok, Ok, Err, Result, sym, refl, ap, ◌∙◌, ⊎_elim, arith}
 use Rattle.std.proofs.lemmas.List.{length-take, length-drop, take_all}
 use Rattle.std.proofs.lemmas.Slice.{between_is}
 use Rattle.std.proofs.lemmas.Bool.{cases_lt, false≢true, le-leb, lt-leb, lt-ltb, le-ltb}
@@ -11,7 +11,7 @@ use Rattle.commands.specs.declared.steps.Stepped.TheVariants.{Finished, Line}
 use Rattle.commands.specs.Steps.{told}
 use Rattle.commands.specs.Format.{Parsed, parsed, operands, open_operands, close_operands, grant_operands, withdraw_operands, policy_operands, request_operands, command_operands}
 use Rattle.commands.specs.Lines.{answer}
-use Rattle.commands.specs.Stream.{counted, command_at, rest_of, next_position, is_refused}
+use Rattle.commands.specs.Stream.{counted, rest_of, next_position, is_refused}
 
 module _ (input : List ℕ) (end : ℕ) (cut : end ≡ min (length input) 65536) where
   pub counted_length : length (counted input) ≡ end

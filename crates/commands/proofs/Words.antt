@@ -1,7 +1,6 @@
 -- How long the words of a line are. Assumes nothing.
-use Rattle.std.proofs.Common.{◌≡◌, ℕ, ◌<◌, ◌≤◌, Bool, true, false, cond, ◌||◌, eqb, length, codes, decimal, refl, arith, lit≤}
+use Rattle.std.proofs.Common.{ℕ, ◌<◌, ◌≤◌, length, decimal, arith, lit≤}
 use Rattle.std.proofs.lemmas.Fmt.{length-decimal-le}
-use Rattle.rights.specs.declared.faults.Layer.{Layer}
 use Rattle.rights.specs.declared.faults.Layer.TheVariants.{Table, Register}
 use Rattle.rights.specs.Faults.{number, layer_of_row}
 use Rattle.commands.specs.declared.faults.StreamFault.{StreamFault}

@@ -1,4 +1,6 @@
 // The command stream: bytes in, one line out for each command.
+#![tactic(auto)]
+
 mod command;
 mod faults;
 mod line;

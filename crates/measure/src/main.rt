@@ -4,6 +4,8 @@
 // more than 510 / STEP; a second line to an account comes from one further back. ORDER is `backward` where the lines
 // stand the other way round. A request is on a register whose 4,096 cells are all in use, by four drafts with grants
 // between the same accounts; LINES and ORDER do not matter for it.
+#![tactic(auto)]
+
 use anyhow::Context;
 use charts::{Mark, Marks, search};
 use model::{Decision, DraftRecord, GrantRecord};

@@ -1,4 +1,6 @@
 // Reads a command stream on standard input and prints one line for each command.
+#![tactic(auto)]
+
 use commands::{STREAM, run};
 use model::{DraftRecord, GrantRecord};
 use rights::Register;

@@ -1,6 +1,6 @@
 -- A history, one call on. Assumes nothing.
-use Rattle.std.proofs.Common.{◌≡◌, ℕ, ◌+◌, ◌<◌, ◌≤◌, List, [], ◌∷◌, ◌++◌, map, length, get_or, take, drop, sym, refl, ap, ◌∙◌, append_assoc, arith}
-use Rattle.std.proofs.lemmas.List.{drop_more, take_more, take_all, drop_all, append-nil, get_or-map, length-map}
+use Rattle.std.proofs.Common.{◌≡◌, ℕ, ◌+◌, ◌<◌, ◌≤◌, List, [], ◌∷◌, ◌++◌, map, length, get_or, take, drop, sym, ap, ◌∙◌, append_assoc}
+use Rattle.std.proofs.lemmas.List.{drop_more, take_more, take_all, drop_all, append-nil, get_or-map}
 use Rattle.model.specs.Calls.{Reply}
 use Rattle.model.specs.History.{Made, History, reply_to, after, replies, outcome}
 use Rattle.model.specs.State.{State}

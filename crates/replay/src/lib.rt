@@ -1,5 +1,7 @@
 // Histories: calls replayed, one after another, on a register. Each call comes with a ruling of its
 // own in hand, and each sheet with a buffer of its own.
+#![tactic(auto)]
+
 ghost use Rattle.std.specs.Prelude.{◌≡◌, map, is_ok, IfOk, if◌then◌else◌};
 ghost use Rattle.rulings.specs.Ranking.{Ranking};
 ghost use Rattle.model.specs.Examples.{WorkedExamples};

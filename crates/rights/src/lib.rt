@@ -11,4 +11,5 @@ pub mod register;
 
 pub use calls::{Call, Outcome};
 pub use faults::{Layer, RegisterFault};
+pub use model::{DraftRecord, GrantKey, GrantRecord, records};
 pub use register::Register;

@@ -1,3 +1,5 @@
+#![tactic(auto)]
+
 // Streams run under the house ruling, and what they must write; grants, requests and sheets; charts, and which
 // lines decide.
 #[cfg(test)]

@@ -1,11 +1,11 @@
-use Rattle.std.proofs.Common.{◌≡◌, ◌-◌, ◌<◌, ◌≤◌, true, false, ◌++◌, length, take, drop, Ok, vec_items, sym, refl, ap, ◌∙◌, subst, arith}
+use Rattle.std.proofs.Common.{◌≡◌, ◌-◌, ◌≤◌, ◌++◌, length, take, drop, Ok, vec_items, sym, refl, ap, ◌∙◌, subst, arith}
 use Rattle.std.proofs.lemmas.List.{take_at, length-take}
 use Rattle.std.proofs.lemmas.Result.{err_from_is_err_and}
 use Rattle.std.proofs.lemmas.Bool.{true≢false}
 use Rattle.model.proofs.Lawfulness.{law}
 use Rattle.rights.specs.Contents.{contents}
 use Rattle.commands.specs.Steps.{if_line, line_length}
-use Rattle.commands.specs.Stream.{counted, command_at, carried, line_at, next_position}
+use Rattle.commands.specs.Stream.{counted, command_at, carried, line_at}
 use Rattle.text.specs.Text.{over}
 use Rattle.commands.proofs.Positions.{counted_length, line_told, finished_told, next_further}
 use Rattle.commands.proofs.Running.{UnderWay, begins, ends, goes_on}

@@ -1,6 +1,6 @@
-use Rattle.std.proofs.Common.{◌≡◌, ℕ, ◌+◌, ◌-◌, ◌*◌, ◌≤◌, ◌++◌, length, vec_items, vec_len, vec_capacity}
+use Rattle.std.proofs.Common.{◌≡◌, ◌-◌, ◌*◌, ◌≤◌, length, vec_items, vec_capacity}
 use Rattle.rights.specs.Contents.{contents}
-use Rattle.commands.specs.Stream.{counted, commands, commands_from, lines, left_by}
+use Rattle.commands.specs.Stream.{counted}
 use Rattle.commands.proofs.Running.{UnderWay}
 use Rattle.commands.proofs.runs.run.Given as goal
 

@@ -1,9 +1,9 @@
-use Rattle.std.proofs.Common.{◌≡◌, ◌-◌, ◌<◌, ◌≤◌, true, length, drop, sym, refl, ap, ◌∙◌, subst, arith, lit≤}
+use Rattle.std.proofs.Common.{◌-◌, ◌<◌, ◌≤◌, length, drop, sym, refl, ap, ◌∙◌, arith, lit≤}
 use Rattle.std.proofs.lemmas.List.{length-drop}
-use Rattle.std.proofs.lemmas.Bool.{le-leb, lt-leb, lt-ltb, le-ltb}
+use Rattle.std.proofs.lemmas.Bool.{le-leb, lt-leb, lt-ltb}
 use Rattle.rights.specs.Contents.{contents}
 use Rattle.commands.specs.Format.{parsed}
-use Rattle.commands.specs.Lines.{answer, line}
+use Rattle.commands.specs.Lines.{line}
 use Rattle.commands.specs.Stream.{counted, rest_of, answered, carried, is_refused, command_at}
 use Rattle.text.specs.Text.{over}
 use Rattle.commands.proofs.Positions.{counted_length, counted_part, rest_shorter, refused_from_fault, told_line}
