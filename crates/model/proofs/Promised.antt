@@ -93,7 +93,7 @@ module _ (R : Ranking) (s : State) (sound : SoundThroughout s) (d r : ℕ) where
     breaks_so new is =
         breaks x.owner marks given (sound d r x found) c_account a_account
         (elim (late_holds (next_serial (draft_of d s)) (not_entitled marks c (draft_of d s)) stands circle no_room (spent (draft_of d s)) (subst SoReplied (sym late_rows) is)) [
-          | inl may-not ↦ inl (not-true (entitled x.owner marks c) (sym (ap (not_entitled marks c) found) ∙ may-not))
+          | inl may_not ↦ inl (not-true (entitled x.owner marks c) (sym (ap (not_entitled marks c) found) ∙ may_not))
           | inr (inl there) ↦ inr (inl (sym (key_marked d r c a s.grants) ∙ there))
           | inr (inr around) ↦ inr (inr around)
         ])

@@ -76,7 +76,7 @@ to_oneself = opens 0 ∷ permits 1 1 ∷ []
 abbrev twice : List Call
 twice = opens 0 ∷ permits 1 2 ∷ denies 1 2 ∷ []
 
--- the sample stream of the program
+-- the sample with grants, which the trials run as a stream
 abbrev session : List Call
 session =
     opens 1 ∷ delegates 1 2 ∷ delegates 1 3 ∷ permits 2 4 ∷ denies 3 4

@@ -1,5 +1,4 @@
 // The records of a register's two tables.
-ghost use Rattle.std.specs.Prelude.{◌&&◌, eqb};
 ghost use Rattle.model.specs.Keys.{by_draft, by_grant};
 
 use table::Record;

@@ -1,5 +1,5 @@
 // The tests that several calls make of what they are told.
-ghost use Rattle.std.specs.Prelude.{◌≡◌, ◌||◌, ltb, if◌then◌else◌, Ok, Err, nat_eq, nat_le, nat_lt};
+ghost use Rattle.std.specs.Prelude.{◌≡◌, ◌||◌, if◌then◌else◌, Ok, Err, nat_eq, nat_le, nat_lt};
 ghost use Rattle.rulings.specs.Ranking.{Ranking};
 ghost use Rattle.model.specs.Meaning.{kind_of};
 
@@ -8,7 +8,7 @@ use rulings::Ruling;
 use terms::{ACCOUNTS, DRAFT_CELLS, Kind, RIGHTS};
 
 pub(crate) fn account_in_range(account: u16) -> Result<(), RegisterFault>
-    ensures { result ≡ (if ltb 511 account then Err RegisterFault.AccountTooLarge else Ok tt) }
+    ensures { result ≡ (if nat_lt 511 account then Err RegisterFault.AccountTooLarge else Ok tt) }
 {
     if account >= ACCOUNTS {
         return Err(RegisterFault::AccountTooLarge);
@@ -36,7 +36,7 @@ pub(crate) fn cells_in_range(cells: u16) -> Result<(), RegisterFault>
 }
 
 pub(crate) fn right_in_range(right: u8) -> Result<(), RegisterFault>
-    ensures { result ≡ (if ltb 7 right then Err RegisterFault.RightTooLarge else Ok tt) }
+    ensures { result ≡ (if nat_lt 7 right then Err RegisterFault.RightTooLarge else Ok tt) }
 {
     if right >= RIGHTS {
         return Err(RegisterFault::RightTooLarge);
@@ -45,7 +45,7 @@ pub(crate) fn right_in_range(right: u8) -> Result<(), RegisterFault>
 }
 
 pub(crate) fn kind_in_range(kind: u8) -> Result<Kind, RegisterFault>
-    ensures { result ≡ (if ltb 2 kind then Err RegisterFault.KindTooLarge else Ok (kind_of kind)) }
+    ensures { result ≡ (if nat_lt 2 kind then Err RegisterFault.KindTooLarge else Ok (kind_of kind)) }
 {
     match kind {
         0 => Ok(Kind::Denying),
