@@ -1,5 +1,5 @@
 -- Lines of a search followed, one after another. Assumes nothing.
-use Rattle.std.proofs.Common.{◌≡◌, ℕ, ◌+◌, ◌<◌, Bool, true, false, ◌||◌, List, get_or, None, Option, sym, refl, ap, ◌∙◌, subst, inl, inr, ⊎_elim, arith}
+use Rattle.std.proofs.Common.{◌≡◌, ℕ, ◌+◌, ◌<◌, Bool, true, false, ◌||◌, List, [], ◌∷◌, ◌++◌, length, length-append, get_or, None, Option, sym, refl, ap, ◌∙◌, subst, inl, inr, ⊎_elim, arith}
 use Rattle.std.proofs.lemmas.Bool.{or_cases, or_parts, cases_eq, cases_lt, cases_Bool, true≢false}
 use Rattle.charts.specs.declared.chart.Line.{Line}
 use Rattle.charts.specs.Chains.{Leads, Chain}
@@ -60,11 +60,16 @@ module _ {S : Type 0} (reaches : S → ℕ → ℕ → Bool) (Starts : ℕ → T
         (λ (other : at ≡ i → ⊥). let earlier : at < i = ⊎_elim (λ l. l) (λ past. absurd (other (omega arith))) (cases_lt at i) in f.keeps a b (p.closed parts.0 at a b c earlier leads known_mid))
         (cases_eq at i)
 
-    pub passed_more : Passed reaches Starts lines (i + 1) before after (grew || new)
-    passed_more = record {
+    one_more : Passed reaches Starts lines (i + 1) before after (grew || new)
+    one_more = record {
       keeps = λ a b m. f.keeps a b (p.keeps a b m);
       sound = more_sound;
       new = more_new;
       same = λ g a b. let parts = or_parts grew new g in f.same parts.1 a b ∙ p.same parts.0 a b;
       closed = more_closed;
     }
+
+  pub passed_more : (lines given : List (Option Line)) (line : Option Line) (before mid after : S) (grew new : Bool) → get_or lines (length given) None ≡ line
+      → Passed reaches Starts lines (length given) before mid grew → Followed reaches Starts line mid after new → Passed reaches Starts lines (length (given ++ line ∷ [])) before after (grew || new)
+  passed_more lines given line before mid after grew new is passed followed =
+      rw (length-append given (line ∷ [])) (one_more lines (length given) before mid after grew new passed (subst (λ l. Followed reaches Starts l mid after new) (sym is) followed))

@@ -5,4 +5,5 @@ pub mod Found
 pub mod Reached
 pub mod Shortest
 pub mod Viewed
+pub mod Walked
 pub mod Words

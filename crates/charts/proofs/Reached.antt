@@ -1,5 +1,6 @@
 -- A line of the search from one account. Assumes nothing.
-use Rattle.std.proofs.Common.{◌≡◌, ℕ, ◌<◌, Bool, true, false, not, ◌&&◌, ◌||◌, eqb, ltb, ◌⊎◌, Some, sym, refl, ap, ◌∙◌, inl, inr, ⊎_elim, arith}
+use Rattle.std.proofs.Common.{◌≡◌, ℕ, ◌<◌, Bool, true, false, not, ◌&&◌, ◌||◌, eqb, ltb, ◌⊎◌, Some, Option, sym, refl, ap, ◌∙◌, inl, inr, ⊎_elim, arith}
+use Rattle.std.proofs.Math.Bool.{or-false}
 use Rattle.std.proofs.lemmas.Bool.{or_cases, or_left, or_right, and_parts, and_from, and_cases, and_right, eqb-true, eq-eqb, ne_eqb, ltb-true, lt-ltb, not-true, not-false, cases_eq}
 use Rattle.charts.specs.declared.accounts.Accounts.{Accounts}
 use Rattle.charts.specs.declared.chart.Line.{Line}
@@ -9,12 +10,8 @@ use Rattle.charts.specs.Passes.{Known, Followed, reached_from, Is}
 pub member_account : (s : Accounts) (a : ℕ) → member s a ≡ true → a < 512
 member_account s a m = ltb-true a 512 (and_parts (ltb a 512) _ m).0
 
-or_none : (x : Bool) → (x || false) ≡ x
-or_none true = refl
-or_none false = refl
-
 -- the account that a line leads to is put in, where it comes from the start or from an account in the set
-module _ (line : Line) (start : ℕ) (account : start < 512) (before after : Accounts) (grew : Bool) (known : (line.from ≡ start) ⊎ (member before line.from ≡ true)) (told : grew ≡ (ltb line.to 512 && not (member before line.to))) (put : (b : ℕ) → member after b ≡ (member before b || (eqb b line.to && ltb b 512))) where
+module _ (o : Option Line) (line : Line) (start : ℕ) (is_line : o ≡ Some line) (account : start < 512) (before after : Accounts) (grew : Bool) (known : (line.from ≡ start) ⊎ (member before line.from ≡ true)) (told : grew ≡ (ltb line.to 512 && not (member before line.to))) (put : (b : ℕ) → member after b ≡ (member before b || (eqb b line.to && ltb b 512))) where
   from_account : line.from < 512
   from_account = ⊎_elim (λ (begins : line.from ≡ start). omega arith) (λ m. member_account before line.from m) known
 
@@ -37,20 +34,20 @@ module _ (line : Line) (start : ℕ) (account : start < 512) (before after : Acc
       ⊎_elim
       (λ (here : b ≡ line.to).
       ⊎_elim
-      (λ (past : ltb line.to 512 ≡ false). put b ∙ ap (λ t. member before b || (eqb b line.to && t)) (ap (λ n. ltb n 512) here ∙ past) ∙ ap (λ t. member before b || t) (and_right (eqb b line.to) false refl) ∙ or_none (member before b))
+      (λ (past : ltb line.to 512 ≡ false). put b ∙ ap (λ t. member before b || (eqb b line.to && t)) (ap (λ n. ltb n 512) here ∙ past) ∙ ap (λ t. member before b || t) (and_right (eqb b line.to) false refl) ∙ or-false (member before b))
       (λ there. let m : member before b ≡ true = ap (member before) here ∙ not-false (member before line.to) there in put b ∙ or_left (member before b) _ m ∙ sym m)
       (and_cases (ltb line.to 512) (not (member before line.to)) (sym told ∙ g)))
-      (λ (other : b ≡ line.to → ⊥). put b ∙ ap (λ t. member before b || (t && ltb b 512)) (ne_eqb b line.to other) ∙ or_none (member before b))
+      (λ (other : b ≡ line.to → ⊥). put b ∙ ap (λ t. member before b || (t && ltb b 512)) (ne_eqb b line.to other) ∙ or-false (member before b))
       (cases_eq b line.to)
 
-  pub reached_more : Followed (reached_from start) (Is start) (Some line) before after grew
+  pub reached_more : Followed (reached_from start) (Is start) o before after grew
   reached_more = record {
     keeps = λ a b m. let parts = and_parts (eqb a start) (member before b) m in and_from (eqb a start) (member after b) parts.0 (put b ∙ or_left (member before b) _ parts.1);
     sound = λ a b m.
         let parts = and_parts (eqb a start) (member after b) m in
         let is = eqb-true a start parts.0 in
         ⊎_elim (λ old. inl (and_from (eqb a start) (member before b) parts.0 old))
-        (λ new. inr (line.from, ap (λ t. Some (record { from = line.from; to = t })) (sym new.0), from_account, new.1, known_from a is))
+        (λ new. inr (line.from, is_line ∙ ap (λ t. Some (record { from = line.from; to = t })) (sym new.0), from_account, new.1, known_from a is))
         (member_found b parts.1);
     complete = λ a b c is _ within start_of_lem.
         let here : line.to ≡ b = cc in

@@ -1,25 +1,11 @@
 -- What stands at a place of a view. Assumes nothing.
-use Rattle.std.proofs.Common.{◌≡◌, ℕ, zero, suc, ◌+◌, ◌<◌, ◌≤◌, min, Bool, true, false, cond, List, [], ◌∷◌, map, length, get_or, take, set, None, Option, sym, refl, ap, ◌∙◌, ⊎_elim, arith}
-use Rattle.std.proofs.lemmas.List.{get_or-map, get_or_past, get_or-take, get_or-set_same, set_past, length-map, length-take}
+use Rattle.std.proofs.Common.{◌≡◌, ℕ, zero, suc, ◌+◌, ◌<◌, ◌≤◌, Bool, true, false, cond, List, [], ◌∷◌, length, get_or, set, None, Option, sym, refl, ap, ◌∙◌, ⊎_elim, arith}
+use Rattle.std.proofs.lemmas.List.{get_or_past, get_or-set_same, set_past}
 use Rattle.std.proofs.lemmas.Bool.{cases_lt}
 use Rattle.terms.specs.declared.Kind.{Kind}
-use Rattle.terms.specs.declared.Kind.TheVariants.{Denying, Plain, Delegatable}
 use Rattle.charts.specs.declared.chart.Line.{Line}
 use Rattle.charts.specs.declared.chart.Sign.{Sign}
 use Rattle.charts.specs.Views.{is_delegatable, passing_from}
-
--- what is made of the first records
-module _ {X Y : Type 0} (f : X → Y) (xs : List X) (n : ℕ) where
-  pub length_made : length (map f (take n xs)) ≡ min (length xs) n
-  length_made = length-map (take n xs) f ∙ length-take n xs ∙ omega arith
-
-  pub made_at : (i : ℕ) (d : X) (e : Y) → i < min (length xs) n → f (get_or xs i d) ≡ get_or (map f (take n xs)) i e
-  made_at i d e within =
-      ap f (sym (get_or-take n xs i d (omega arith)))
-      ∙ sym (get_or-map f (take n xs) i d e (omega (arith, length-take n xs)))
-
-  pub none_made : (i : ℕ) (e : Y) → min (length xs) n ≤ i → e ≡ get_or (map f (take n xs)) i e
-  none_made i e past = sym (get_or_past (map f (take n xs)) i e (omega (arith, length_made)))
 
 neither : (b : Bool) → ◌≡◌ {A = Option Line} None (cond b None None)
 neither true = refl
@@ -49,9 +35,3 @@ taken_out lines at =
     ⊎_elim (λ (within : at < length lines). sym (get_or-set_same lines at None None within))
     (λ (past : length lines ≤ at). sym (ap (λ ls. get_or ls at None) (set_past lines at None past) ∙ get_or_past lines at None past))
     (cases_lt at (length lines))
-
--- a kind that is not delegatable does not pass
-pub not_passing : (k : Kind) → (k ≡ Delegatable → ⊥) → is_delegatable k ≡ false
-not_passing Denying other = refl
-not_passing Plain other = refl
-not_passing Delegatable other = absurd (other refl)

@@ -1,139 +1,81 @@
 -- Sets taken together word by word. Assumes nothing.
-use Rattle.std.proofs.Common.{◌≡◌, ℕ, ◌+◌, ◌*◌, ◌/◌, ◌%◌, ◌^◌, ◌<◌, ◌≤◌, Bool, true, false, cond, ◌&&◌, ◌||◌, ltb, List, length, get_or, set, sym, refl, ap, ◌∙◌, ⊎_elim, arith}
-use lib.Bits.{bit_or, bit_and}
-use Rattle.std.proofs.lemmas.List.{get_or-set_same, get_or-set_other, length-set}
-use Rattle.std.proofs.lemmas.Bool.{lt-ltb, le-ltb, ltb-true, and_parts, and_from, cases_eq, cases_lt, or_right, true≢false}
+use Rattle.std.proofs.Common.{◌≡◌, ℕ, suc, ◌+◌, ◌*◌, ◌/◌, ◌%◌, ◌^◌, ◌<◌, ◌≤◌, ◌≢◌, max, Bool, true, false, ◌&&◌, ◌||◌, eqb, ltb, List, [], ◌∷◌, length, get_or, bit_or, MatchBool, Decides, sym, subst, refl, ap, ◌∙◌, ⊎_elim, arith}
+use Rattle.std.specs.Int.{bit_at}
+use Rattle.std.proofs.lemmas.Nat.{or_lt}
+use Rattle.std.proofs.lemmas.Nat.Bits.{bit_at_or, bit_at-lt}
+use Rattle.std.proofs.lemmas.Bool.{lt-ltb, le-ltb, ltb-true, and_parts, cases_eq, cases_lt, false≢true}
+use Rattle.std.specs.List.{AllWithin, HoldsAt, zip}
+use Rattle.std.proofs.lemmas.Slice.Zip.{length-zip, get_or-zip}
 use Rattle.charts.specs.Members.{bit}
-use Rattle.std.proofs.lemmas.Nat.{pow_pos}
-use Rattle.charts.proofs.Bits.{bit_either, bit_both, differs, zero_bit}
+use Rattle.charts.proofs.Bits.{bit_either, differs}
 
 -- the bit of account b in the words of a set, and of the account at a bit
 abbrev pub holds : List ℕ → ℕ → Bool
 holds ws b = ltb b 512 && bit (get_or ws (b / 64) 0) (b % 64)
 
-pub holds_at : (ws : List ℕ) (i j : ℕ) → i < 8 → j < 64 → holds ws (64 * i + j) ≡ bit (get_or ws i 0) j
+holds_at : (ws : List ℕ) (i j : ℕ) → i < 8 → j < 64 → holds ws (64 * i + j) ≡ bit (get_or ws i 0) j
 holds_at ws i j row col =
     let quotient : (64 * i + j) / 64 ≡ i = omega arith in
     let rest : (64 * i + j) % 64 ≡ j = omega arith in
-    ap (λ t. t && bit (get_or ws ((64 * i + j) / 64) 0) ((64 * i + j) % 64)) (lt-ltb (64 * i + j) 512 (omega arith))
-    ∙ ap (λ k. bit (get_or ws k 0) ((64 * i + j) % 64)) quotient
-    ∙ ap (bit (get_or ws i 0)) rest
+    rw (quotient, rest, lt-ltb (64 * i + j) 512 (omega arith)) refl
 
--- the first k words of a set joined with those of another
-pub record Joining (ws os ns : List ℕ) (k : ℕ) (grew : Bool) : Type 0 where
-  pub word : (i : ℕ) → get_or ns i 0 ≡ cond (ltb i k) (bit_or (get_or ws i 0) (get_or os i 0)) (get_or ws i 0)
-  pub long : length ns ≡ length ws
-  pub new : grew ≡ true → (i : ℕ) × (j : ℕ) × (i < 8) × (j < 64) × (bit (get_or ws i 0) j ≡ false) × (bit (get_or os i 0) j ≡ true)
-  pub same : grew ≡ false → (i : ℕ) → i < k → bit_or (get_or ws i 0) (get_or os i 0) ≡ get_or ws i 0
+-- lists of one length that differ do so at a place
+differ_at : (xs ys : List ℕ) → length xs ≡ length ys → xs ≢ ys → (i : ℕ) × (i < length xs) × (get_or xs i 0 ≢ get_or ys i 0)
+differ_at [] [] long other = absurd (other refl)
+differ_at [] (y ∷ ys) long other = absurd (omega arith)
+differ_at (x ∷ xs) [] long other = absurd (omega arith)
+differ_at (x ∷ xs) (y ∷ ys) long other =
+    ⊎_elim (λ (same : x ≡ y). let d = differ_at xs ys (omega arith) (λ e. other (cc)) in (suc d.0, omega (arith, d.1), d.2))
+    (λ differ. (0, omega arith, differ))
+    (cases_eq x y)
 
-pub joining_none : (ws os : List ℕ) → Joining ws os ws 0 false
-joining_none ws os = record { word = λ i. ap (λ t. cond t (bit_or (get_or ws i 0) (get_or os i 0)) (get_or ws i 0)) (sym (le-ltb i 0 (omega arith))); long = refl; new = λ e. absurd (true≢false (sym e)); same = λ _ i below. absurd (omega arith) }
-
-past_one : (i k : ℕ) → (i ≡ k → ⊥) → ltb i k ≡ ltb i (k + 1)
-past_one i k other =
-    ⊎_elim (λ (below : i < k). lt-ltb i k below ∙ sym (lt-ltb i (k + 1) (omega arith)))
-    (λ (above : k ≤ i). let more : k + 1 ≤ i = ⊎_elim (λ (at : i ≡ k). absurd (other at)) (λ (no_at : i ≡ k → ⊥). ⊎_elim (λ (l : k < i). omega arith) (λ (g : i ≤ k). absurd (no_at (omega arith))) (cases_lt k i)) (cases_eq i k) in le-ltb i k above ∙ sym (le-ltb i (k + 1) more))
-    (cases_lt i k)
-
-module _ (ws os ns : List ℕ) (k : ℕ) (grew : Bool) (j : Joining ws os ns k grew) (row : k < 8) (within : k < length ns) where
-  -- the word at k is still the one from before
-  at_k : get_or ns k 0 ≡ get_or ws k 0
-  at_k = j.word k ∙ ap (λ t. cond t (bit_or (get_or ws k 0) (get_or os k 0)) (get_or ws k 0)) (le-ltb k k (omega arith))
-
-  word_more : (i : ℕ) → get_or (set ns k (bit_or (get_or ns k 0) (get_or os k 0))) i 0 ≡ cond (ltb i (k + 1)) (bit_or (get_or ws i 0) (get_or os i 0)) (get_or ws i 0)
-  word_more i =
-      ⊎_elim
-      (λ (here : i ≡ k).
-      ap (λ n. get_or (set ns k (bit_or (get_or ns k 0) (get_or os k 0))) n 0) here
-      ∙ get_or-set_same ns k (bit_or (get_or ns k 0) (get_or os k 0)) 0 within
-      ∙ ap (λ w. bit_or w (get_or os k 0)) at_k
-      ∙ ap (λ n. bit_or (get_or ws n 0) (get_or os n 0)) (sym here)
-      ∙ ap (λ t. cond t (bit_or (get_or ws i 0) (get_or os i 0)) (get_or ws i 0)) (sym (lt-ltb i (k + 1) (omega arith))))
-      (λ (other : i ≡ k → ⊥).
-      get_or-set_other ns k i (bit_or (get_or ns k 0) (get_or os k 0)) 0 other ∙ j.word i
-      ∙ ap (λ t. cond t (bit_or (get_or ws i 0) (get_or os i 0)) (get_or ws i 0)) (past_one i k other))
-      (cases_eq i k)
-
-  long_more : length (set ns k (bit_or (get_or ns k 0) (get_or os k 0))) ≡ length ws
-  long_more = length-set ns k (bit_or (get_or ns k 0) (get_or os k 0)) ∙ j.long
-
-  pub joining_same : bit_or (get_or ns k 0) (get_or os k 0) ≡ get_or ns k 0 → Joining ws os (set ns k (bit_or (get_or ns k 0) (get_or os k 0))) (k + 1) grew
-  joining_same none = record {
-    word = word_more;
-    long = long_more;
-    new = j.new;
-    same = λ g i below.
-        ⊎_elim
-        (λ (here : i ≡ k). ap (λ n. bit_or (get_or ws n 0) (get_or os n 0)) here ∙ ap (λ w. bit_or w (get_or os k 0)) (sym at_k) ∙ none ∙ at_k ∙ ap (λ n. get_or ws n 0) (sym here))
-        (λ (other : i ≡ k → ⊥). j.same g i (ltb-true i k (past_one i k other ∙ lt-ltb i (k + 1) below)))
-        (cases_eq i k);
-  }
-
-  pub joining_new : get_or ns k 0 < 2 ^ 64 → bit_or (get_or ns k 0) (get_or os k 0) < 2 ^ 64 → (bit_or (get_or ns k 0) (get_or os k 0) ≡ get_or ns k 0 → ⊥) → Joining ws os (set ns k (bit_or (get_or ns k 0) (get_or os k 0))) (k + 1) true
-  joining_new small small' some =
-      let d = differs 64 (bit_or (get_or ns k 0) (get_or os k 0)) (get_or ns k 0) small' small some in
-      let bits = new_bit (bit (get_or ns k 0) d.0) (bit (get_or os k 0) d.0) (λ e. d.2 (bit_either (get_or ns k 0) (get_or os k 0) d.0 ∙ e)) in
-      record {
-        word = word_more;
-        long = long_more;
-        new = λ _. (k, d.0, row, d.1, ap (λ w. bit w d.0) (sym at_k) ∙ bits.0, bits.1);
-        same = λ e. absurd (true≢false e);
-      }
-    where
-      new_bit : (x y : Bool) → ((x || y) ≡ x → ⊥) → (x ≡ false) × (y ≡ true)
-      new_bit true y other = absurd (other refl)
-      new_bit false true other = (refl, refl)
-      new_bit false false other = absurd (other refl)
-
--- once all words are joined
-module _ (ws os ns : List ℕ) (k : ℕ) (grew : Bool) (j : Joining ws os ns k grew) (all : 8 ≤ k) where
-  at_word : (i : ℕ) → i < 8 → get_or ns i 0 ≡ bit_or (get_or ws i 0) (get_or os i 0)
-  at_word i row = j.word i ∙ ap (λ t. cond t (bit_or (get_or ws i 0) (get_or os i 0)) (get_or ws i 0)) (lt-ltb i k (omega arith))
-
+-- the words of a set joined with those of another
+module _ (ws os ns : List ℕ) (join : (i : ℕ) → i < 8 → get_or ns i 0 ≡ bit_or (get_or ws i 0) (get_or os i 0)) where
   pub joined_holds : (b : ℕ) → holds ns b ≡ (holds ws b || holds os b)
   joined_holds b =
       ⊎_elim
-      (λ (account : b < 512).
-      ap (λ t. t && bit (get_or ns (b / 64) 0) (b % 64)) (lt-ltb b 512 account)
-      ∙ ap (λ w. bit w (b % 64)) (at_word (b / 64) (omega arith))
-      ∙ bit_either (get_or ws (b / 64) 0) (get_or os (b / 64) 0) (b % 64)
-      ∙ ap (λ t. (t && bit (get_or ws (b / 64) 0) (b % 64)) || (t && bit (get_or os (b / 64) 0) (b % 64))) (sym (lt-ltb b 512 account)))
-      (λ (past : 512 ≤ b).
-      ap (λ t. t && bit (get_or ns (b / 64) 0) (b % 64)) (le-ltb b 512 past)
-      ∙ ap (λ t. (t && bit (get_or ws (b / 64) 0) (b % 64)) || (t && bit (get_or os (b / 64) 0) (b % 64))) (sym (le-ltb b 512 past)))
+      (λ (account : b < 512). rw (lt-ltb b 512 account) (ap (λ w. bit w (b % 64)) (join (b / 64) (omega arith)) ∙ bit_either (get_or ws (b / 64) 0) (get_or os (b / 64) 0) (b % 64)))
+      (λ (past : 512 ≤ b). rw (le-ltb b 512 past) refl)
       (cases_lt b 512)
 
-  pub joined_new : grew ≡ true → (b : ℕ) × (holds ws b ≡ false) × (holds ns b ≡ true)
-  joined_new g =
-      let n = j.new g in (
-        64 * n.0 + n.1,
-        holds_at ws n.0 n.1 n.2 n.3 ∙ n.4,
-        holds_at ns n.0 n.1 n.2 n.3 ∙ ap (λ w. bit w n.1) (at_word n.0 n.2) ∙ bit_either (get_or ws n.0 0) (get_or os n.0 0) n.1 ∙ ap (λ t. bit (get_or ws n.0 0) n.1 || t) n.5 ∙ or_right (bit (get_or ws n.0 0) n.1) true refl,
-      )
+  -- a bit in which a joined word differs from the one before is new
+  new_at : (i j : ℕ) → i < 8 → j < 64 → bit_at (get_or ns i 0) j ≢ bit_at (get_or ws i 0) j → (holds ws (64 * i + j) ≡ false) × (holds ns (64 * i + j) ≡ true)
+  new_at i j row col other =
+      let joined : bit_at (get_or ns i 0) j ≡ max (bit_at (get_or ws i 0) j) (bit_at (get_or os i 0) j) = ap (λ w. bit_at w j) (join i row) ∙ bit_at_or (get_or ws i 0) (get_or os i 0) j in
+      let before : bit_at (get_or ws i 0) j ≡ 0 = omega (arith, joined, other, bit_at-lt (get_or os i 0) j) in
+      let after : bit_at (get_or ns i 0) j ≡ 1 = omega (arith, joined, other, bit_at-lt (get_or os i 0) j) in
+      (holds_at ws i j row col ∙ ap (λ n. eqb n 1) before, holds_at ns i j row col ∙ ap (λ n. eqb n 1) after)
 
-  pub joined_same : grew ≡ false → (b : ℕ) → holds ns b ≡ holds ws b
-  joined_same g b =
-      ⊎_elim
-      (λ (account : b < 512). ap (λ w. ltb b 512 && bit w (b % 64)) (at_word (b / 64) (omega arith) ∙ j.same g (b / 64) (omega arith)))
-      (λ (past : 512 ≤ b). ap (λ t. t && bit (get_or ns (b / 64) 0) (b % 64)) (le-ltb b 512 past) ∙ ap (λ t. t && bit (get_or ws (b / 64) 0) (b % 64)) (sym (le-ltb b 512 past)))
-      (cases_lt b 512)
+  pub joined_new : length ns ≡ 8 → length ws ≡ 8 → ((i : ℕ) → i < 8 → (get_or ws i 0 < 2 ^ 64) × (get_or os i 0 < 2 ^ 64)) → ns ≢ ws → (b : ℕ) × (holds ws b ≡ false) × (holds ns b ≡ true)
+  joined_new long long' small other = at (differ_at ns ws (omega arith) other)
+    where
+      at : (i : ℕ) × (i < length ns) × (get_or ns i 0 ≢ get_or ws i 0) → (b : ℕ) × (holds ws b ≡ false) × (holds ns b ≡ true)
+      at (i, within, differ) =
+          let row : i < 8 = omega arith in
+          let words = small i row in
+          let d = differs (get_or ns i 0) (get_or ws i 0) (omega (arith, join i row, or_lt 64 (get_or ws i 0) (get_or os i 0) words.0 words.1)) words.0 differ in
+          let new = new_at i d.0 row d.1 d.2 in
+          (64 * i + d.0, new.0, new.1)
 
--- words with no bit in common, and with one
-pub apart : (ws os : List ℕ) (k : ℕ) → 8 ≤ k → ((i : ℕ) → i < k → bit_and (get_or ws i 0) (get_or os i 0) ≡ 0) → (b : ℕ) → holds ws b ≡ true → holds os b ≡ true → ⊥
-apart ws os k all none b left right =
-    let l = and_parts (ltb b 512) (bit (get_or ws (b / 64) 0) (b % 64)) left in
-    let r = and_parts (ltb b 512) (bit (get_or os (b / 64) 0) (b % 64)) right in
-    let account = ltb-true b 512 l.0 in
-    let both = bit_both (get_or ws (b / 64) 0) (get_or os (b / 64) 0) (b % 64) ∙ and_from _ _ l.1 r.1 in
-    true≢false (sym both ∙ ap (λ w. bit w (b % 64)) (none (b / 64) (omega arith)) ∙ zero_bit (b % 64))
+-- two words with a bit in common, and two sets with one in words at the same place
+abbrev pub Shared : ℕ × ℕ → Type 0
+Shared p = (j : ℕ) × (j < 64) × (bit p.0 j ≡ true) × (bit p.1 j ≡ true)
 
-pub common : (ws os : List ℕ) (i : ℕ) → i < 8 → bit_and (get_or ws i 0) (get_or os i 0) < 2 ^ 64 → (bit_and (get_or ws i 0) (get_or os i 0) ≡ 0 → ⊥) → (b : ℕ) × (holds ws b ≡ true) × (holds os b ≡ true)
-common ws os i row small some =
-    let d = differs 64 (bit_and (get_or ws i 0) (get_or os i 0)) 0 small (pow_pos 64) some in
-    let on = not_false_is_true (bit (bit_and (get_or ws i 0) (get_or os i 0)) d.0) (λ e. d.2 (e ∙ sym (zero_bit d.0))) in
-    let parts = and_parts (bit (get_or ws i 0) d.0) (bit (get_or os i 0) d.0) (sym (bit_both (get_or ws i 0) (get_or os i 0) d.0) ∙ on) in
-    (64 * i + d.0, holds_at ws i d.0 row d.1 ∙ parts.0, holds_at os i d.0 row d.1 ∙ parts.1)
-  where
-    not_false_is_true : (x : Bool) → (x ≡ false → ⊥) → x ≡ true
-    not_false_is_true true other = refl
-    not_false_is_true false other = absurd (other refl)
+pub met : (ws os : List ℕ) (r : Bool) → length ws ≡ 8 → length os ≡ 8
+    → MatchBool r ((k : ℕ) × (k < length (zip ws os)) × HoldsAt Shared (zip ws os) k) (AllWithin (λ p. Shared p → ⊥) (zip ws os) 0 (length (zip ws os)))
+    → Decides r ((b : ℕ) × (holds ws b ≡ true) × (holds os b ≡ true))
+met ws os true long long' found =
+    let k = found.0 in
+    let row : k < 8 = omega (arith, found.1, length-zip ws os) in
+    let here = subst Shared (get_or-zip ws os k (0, 0) (omega arith) (omega arith)) (found.2 (0, 0)) in
+    ((λ _. (64 * k + here.0, holds_at ws k here.0 row here.1 ∙ here.2, holds_at os k here.0 row here.1 ∙ here.3)), (λ _. refl))
+met ws os false long long' none = (
+  (λ e. absurd (false≢true e)),
+  (λ both.
+      let b = both.0 in
+      let l = and_parts (ltb b 512) (bit (get_or ws (b / 64) 0) (b % 64)) both.1 in
+      let r = and_parts (ltb b 512) (bit (get_or os (b / 64) 0) (b % 64)) both.2 in
+      let row : b / 64 < 8 = omega (arith, ltb-true b 512 l.0) in
+      absurd (none (b / 64) (0, 0) (omega arith) (omega (arith, length-zip ws os))
+      (subst Shared (sym (get_or-zip ws os (b / 64) (0, 0) (omega arith) (omega arith))) (b % 64, omega arith, l.1, r.1)))),
+)

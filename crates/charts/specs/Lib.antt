@@ -4,3 +4,4 @@ pub mod Passes
 pub mod Reaching
 pub mod Sets
 pub mod Views
+pub mod Walks

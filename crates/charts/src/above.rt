@@ -7,10 +7,9 @@ ghost use Rattle.charts.specs.Sets.{over, joins, Any};
 
 use crate::accounts::Accounts;
 use crate::chart::{Chart, Line};
-use terms::ACCOUNTS;
 
 // For each account a set of accounts from which lines lead to it: 32 KB.
-#[derive(Clone, Copy)]
+#[derive(Clone, Copy, Debug)]
 pub struct Sources {
     sets: [Accounts; 512],
 }
@@ -28,44 +27,33 @@ impl Sources {
     pub fn of(&self, account: u16) -> Accounts
         ensures { (a : ℕ) → member result a ≡ over self.now a account }
     {
-        if account >= ACCOUNTS {
-            return Accounts::none();
-        }
-        self.sets[usize::from(account)]
+        self.sets
+            .get(usize::from(account))
+            .copied()
+            .unwrap_or_default()
     }
 
     // Puts where the line leads from into the set of where it leads to.
     fn put(&mut self, line: Option<Line>)
         ensures { (a b : ℕ) → over self.new a b ≡ (over self.old a b || joins line a b) }
     {
-        let Some(line) = line else {
+        let Some(line) = line.filter(Line::joins_accounts) else {
             return;
         };
-        if line.from >= ACCOUNTS || line.to >= ACCOUNTS {
-            return;
-        }
-        let to = usize::from(line.to);
-        let mut set = self.sets[to];
-        set.insert(line.from);
-        self.sets[to] = set;
+        self.sets[usize::from(line.to)].insert(line.from);
     }
 
     // Puts where the line leads from, and all above that, above where it leads to; tells whether one is new.
     fn follow(&mut self, line: Option<Line>) -> bool
         ensures { Followed over Any line self.old self.new result }
     {
-        let Some(line) = line else {
+        let Some(line) = line.filter(Line::joins_accounts) else {
             return false;
         };
-        if line.from >= ACCOUNTS || line.to >= ACCOUNTS {
-            return false;
-        }
         let higher = self.sets[usize::from(line.from)];
-        let to = usize::from(line.to);
-        let mut set = self.sets[to];
+        let set = &mut self.sets[usize::from(line.to)];
         let new = set.insert(line.from);
         let more = set.absorb(&higher);
-        self.sets[to] = set;
         new | more
     }
 }
@@ -81,13 +69,14 @@ pub fn all_above<C: Chart>(chart: &C) -> Sources
     above
 }
 
-// Follows every line once; tells whether an account is new above another.
+// Follows every line once; tells whether an account is new above another. `pass` of a search is like it for one
+// account: a trait for both would have three ghost members for this loop.
 fn climb<C: Chart>(chart: &C, above: &mut Sources) -> bool
     ensures { Passed over Any (C.lines chart.now) (length (C.lines chart.now)) above.old above.new result }
 {
     let mut grew = false;
-    for i in 0..chart.len() {
-        grew |= above.follow(chart.line(i));
+    for line in chart.iter() {
+        grew |= above.follow(line);
     }
     grew
 }
@@ -97,8 +86,8 @@ pub fn direct_sources<C: Chart>(chart: &C) -> Sources
     ensures { (a b : ℕ) → Decides (over result a b) ((at : ℕ) × Leads (C.lines chart.now) at a b) }
 {
     let mut sources = Sources::none();
-    for i in 0..chart.len() {
-        sources.put(chart.line(i));
+    for line in chart.iter() {
+        sources.put(line);
     }
     sources
 }

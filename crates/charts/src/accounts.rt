@@ -1,11 +1,11 @@
 // A set of accounts, one bit each in eight words. What speaks of two sets costs a step for each word, the rest
 // one step.
-ghost use Rattle.std.specs.Prelude.{◌≡◌, ℕ, true, false, not, ◌&&◌, ◌||◌, Decides, ◌==◌, nat_lt};
-ghost use Rattle.charts.specs.Members.{member};
+ghost use Rattle.std.specs.Prelude.{◌≡◌, ℕ, true, false, not, ◌&&◌, ◌||◌, ◌<◌, Decides, ◌==◌, nat_lt};
+ghost use Rattle.charts.specs.Members.{bit, member};
 
 use terms::ACCOUNTS;
 
-#[derive(Clone, Copy)]
+#[derive(Clone, Copy, Debug, PartialEq, Eq, Default)]
 pub struct Accounts {
     words: [u64; 8],
 }
@@ -14,17 +14,15 @@ impl Accounts {
     pub fn none() -> Accounts
         ensures { (a : ℕ) → member result a ≡ false }
     {
-        Accounts { words: [0; 8] }
+        Accounts::default()
     }
 
     pub fn contains(&self, account: u16) -> bool
         ensures { result ≡ member self.now account }
     {
-        if account >= ACCOUNTS {
-            return false;
-        }
-        let word = self.words[usize::from(account / 64)];
-        (word >> (account % 64)) & 1 == 1
+        self.words
+            .get(usize::from(account / 64))
+            .is_some_and(|word| (word >> (account % 64)) & 1 == 1)
     }
 
     // Puts the account in, and tells whether it is new; a number that is no account is left out.
@@ -35,9 +33,7 @@ impl Accounts {
         if account >= ACCOUNTS || self.contains(account) {
             return false;
         }
-        let at = usize::from(account / 64);
-        let word = self.words[at];
-        self.words[at] = word | (1 << (account % 64));
+        self.words[usize::from(account / 64)] |= 1 << (account % 64);
         true
     }
 
@@ -47,30 +43,27 @@ impl Accounts {
         ensures new { result ≡ true → (b : ℕ) × (member self.old b ≡ false) × (member self.new b ≡ true) }
         ensures same { result ≡ false → (b : ℕ) → member self.new b ≡ member self.old b }
     {
-        let mut grew = false;
-        for k in 0..8 {
-            let word = self.words[k];
-            let more = other.words[k];
-            let joined = word | more;
-            if joined != word {
-                grew = true;
-            }
-            self.words[k] = joined;
+        let before = *self;
+        // By number: of words that are changed through `iter_mut` a proof knows how many there are, and no more.
+        for (k, more) in other.words.iter().enumerate() {
+            self.words[k] |= more;
         }
-        grew
+        *self != before
     }
 
     // Whether an account is in both sets.
     pub fn meets(&self, other: &Accounts) -> bool
         ensures { Decides result ((b : ℕ) × (member self.now b ≡ true) × (member other.now b ≡ true)) }
     {
-        for k in 0..8 {
-            let word = self.words[k];
-            let more = other.words[k];
-            if word & more != 0 {
-                return true;
-            }
-        }
-        false
+        self.words
+            .iter()
+            .zip(&other.words)
+            .any(|(word, more)| share_a_bit(*word, *more))
     }
+}
+
+fn share_a_bit(word: u64, more: u64) -> bool
+    ensures { Decides result ((j : ℕ) × (j < 64) × (bit word j ≡ true) × (bit more j ≡ true)) }
+{
+    word & more != 0
 }

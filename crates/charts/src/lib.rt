@@ -9,6 +9,6 @@ pub mod views;
 
 pub use above::{Sources, all_above, direct_sources};
 pub use accounts::Accounts;
-pub use chart::{Chart, Line, Sign, SignedChart};
+pub use chart::{Chart, Line, Lines, Sign, SignedChart};
 pub use reach::search;
 pub use views::{Mark, Marks, Passing, Without};

@@ -28,8 +28,8 @@ fn pass<C: Chart>(chart: &C, start: u16, reached: &mut Accounts) -> bool
     ensures { Passed (reached_from start) (Is start) (C.lines chart.now) (length (C.lines chart.now)) reached.old reached.new result }
 {
     let mut grew = false;
-    for i in 0..chart.len() {
-        grew |= follow(chart.line(i), start, reached);
+    for line in chart.iter() {
+        grew |= follow(line, start, reached);
     }
     grew
 }

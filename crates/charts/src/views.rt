@@ -1,12 +1,12 @@
 // Charts made of others and of records. Each reading costs what one of the chart beneath costs, and a step.
-ghost use Rattle.std.specs.Prelude.{◌≡◌, ℕ, map, take, Some, None, slice_index_or, slice_set};
+ghost use Rattle.std.specs.Prelude.{◌≡◌, ℕ, ◌≤◌, map, length, take, Some, None, slice_index_or, slice_set};
 ghost use Rattle.charts.specs.Views.{mark_line, mark_sign, no_sign, passing};
 
 use crate::chart::{Chart, Line, Sign, SignedChart};
 use terms::{CELLS, Kind};
 
 // A record that is a line with its sign.
-#[derive(Clone, Copy)]
+#[derive(Clone, Copy, Debug, PartialEq, Eq, Default)]
 pub struct Mark {
     pub from: u16,
     pub to: u16,
@@ -14,28 +14,52 @@ pub struct Mark {
     pub serial: u16,
 }
 
+impl From<Mark> for Line {
+    ghost from_gives = { λ m l. l ≡ record { from = m.from; to = m.to } };
+
+    fn from(mark: Mark) -> Line {
+        Line {
+            from: mark.from,
+            to: mark.to,
+        }
+    }
+}
+
+impl From<Mark> for Sign {
+    ghost from_gives = { λ m s. s ≡ mark_sign m };
+
+    fn from(mark: Mark) -> Sign {
+        Sign {
+            kind: mark.kind,
+            serial: mark.serial,
+        }
+    }
+}
+
 // All lines of some records, of which only the first 4,096 count.
-#[derive(Clone, Copy)]
+#[derive(Clone, Copy, Debug)]
 pub struct Marks<'a> {
     pub marks: &'a [Mark],
+}
+
+impl Marks<'_> {
+    fn counted(&self) -> &[Mark]
+        ensures marks { result.now ≡ take 4096 self.now.marks.now }
+        ensures bound { length result.now ≤ 4096 }
+    {
+        &self.marks[..CELLS.min(self.marks.len())]
+    }
 }
 
 impl Chart for Marks<'_> {
     ghost lines = { λ s. map mark_line (take 4096 s.marks.now) };
 
     fn len(&self) -> usize {
-        self.marks.len().min(CELLS)
+        self.counted().len()
     }
 
     fn line(&self, at: usize) -> Option<Line> {
-        if at >= self.len() {
-            return None;
-        }
-        let mark = self.marks[at];
-        Some(Line {
-            from: mark.from,
-            to: mark.to,
-        })
+        self.counted().get(at).copied().map(Line::from)
     }
 }
 
@@ -43,14 +67,11 @@ impl SignedChart for Marks<'_> {
     ghost signs = { λ s i. slice_index_or (map mark_sign (take 4096 s.marks.now)) i no_sign };
 
     fn sign(&self, at: usize) -> Sign {
-        if at >= self.len() {
-            return Sign::NONE;
-        }
-        let mark = self.marks[at];
-        Sign {
-            kind: mark.kind,
-            serial: mark.serial,
-        }
+        self.counted()
+            .get(at)
+            .copied()
+            .map(Sign::from)
+            .unwrap_or_default()
     }
 }
 
@@ -68,10 +89,10 @@ impl<C: SignedChart> Chart for Passing<'_, C> {
     }
 
     fn line(&self, at: usize) -> Option<Line> {
-        match self.chart.sign(at).kind {
-            Kind::Delegatable => self.chart.line(at),
-            _ => None,
+        if self.chart.sign(at).kind != Kind::Delegatable {
+            return None;
         }
+        self.chart.line(at)
     }
 }
 
@@ -91,9 +112,10 @@ impl<C: Chart> Chart for Without<'_, C> {
 
     fn line(&self, at: usize) -> Option<Line> {
         if at == self.at {
-            return None;
+            None
+        } else {
+            self.chart.line(at)
         }
-        self.chart.line(at)
     }
 }
 

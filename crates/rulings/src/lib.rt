@@ -4,12 +4,12 @@
 
 ghost use Rattle.std.specs.Prelude.{◌≡◌, nat_lt};
 ghost use Rattle.rulings.specs.Ranking.{Ranking, Lawful};
-ghost use Rattle.rulings.specs.House.{house, strictness};
+ghost use Rattle.rulings.specs.House.{house};
 ghost use Rattle.rulings.specs.HouseLaws.{house_lawful};
 ghost use Rattle.rulings.specs.Seniority.{rank, seniority};
 ghost use Rattle.rulings.specs.SeniorityLaws.{seniority_lawful};
 
-use terms::{Claim, Kind};
+use terms::Claim;
 
 // A ruling, by its ranking, which is lawful. `POLICIES` is the number of policies that it knows, from 1
 // to 16; it binds where `knows` is written with it.
@@ -29,7 +29,7 @@ pub trait Ruling {
 }
 
 // The ruling of the planning service itself.
-#[derive(Clone, Copy)]
+#[derive(Clone, Copy, Debug, PartialEq, Eq, Default)]
 pub struct House;
 
 impl Ruling for House {
@@ -44,30 +44,33 @@ impl Ruling for House {
     }
 
     fn ranks(&self, policy: u8, a: Claim, b: Claim) -> bool {
+        // Kinds are in order from the strictest.
         match policy {
             0 => true,
-            1 => strictness(b.kind) <= strictness(a.kind),
-            2 => strictness(a.kind) <= strictness(b.kind),
+            1 => a.kind <= b.kind,
+            2 => b.kind <= a.kind,
             3 => b.serial <= a.serial,
             _ => false,
         }
     }
 }
 
-fn strictness(kind: Kind) -> u8
-    ensures { result ≡ strictness kind }
-{
-    match kind {
-        Kind::Denying => 2,
-        Kind::Plain => 1,
-        Kind::Delegatable => 0,
-    }
-}
-
 // Ranks claims by the rank bytes that the host provides, one for each account.
-#[derive(Clone, Copy)]
+#[derive(Clone, Copy, Debug, PartialEq, Eq)]
 pub struct Seniority<'a> {
     pub ranks: &'a [u8],
+}
+
+impl Seniority<'_> {
+    // The rank of a claim's grantor; past the end of the bytes it is 0.
+    fn rank(&self, claim: Claim) -> u8
+        ensures { result ≡ rank self.now.ranks.now claim }
+    {
+        self.ranks
+            .get(usize::from(claim.grantor))
+            .copied()
+            .unwrap_or(0)
+    }
 }
 
 impl Ruling for Seniority<'_> {
@@ -83,19 +86,9 @@ impl Ruling for Seniority<'_> {
 
     fn ranks(&self, policy: u8, a: Claim, b: Claim) -> bool {
         match policy {
-            0 => rank(self.ranks, b) <= rank(self.ranks, a),
-            1 => rank(self.ranks, a) <= rank(self.ranks, b),
+            0 => self.rank(b) <= self.rank(a),
+            1 => self.rank(a) <= self.rank(b),
             _ => false,
         }
-    }
-}
-
-// The rank of a claim's grantor; past the end of the bytes it is 0.
-fn rank(ranks: &[u8], claim: Claim) -> u8
-    ensures { result ≡ rank ranks.now claim }
-{
-    match ranks.get(usize::from(claim.grantor)) {
-        Some(byte) => *byte,
-        None => 0,
     }
 }

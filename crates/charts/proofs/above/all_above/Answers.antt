@@ -1,12 +1,7 @@
-use Rattle.std.proofs.Common.{sym, ◌∙◌}
-use Rattle.std.proofs.lemmas.Bool.{false≢true}
 use Rattle.charts.specs.Sets.{over, Any}
 use Rattle.charts.proofs.Climbed.{over_accounts}
 use Rattle.charts.proofs.Found.{missing_less, all_found}
 use Rattle.charts.proofs.above.all_above.Goals as goal
-
-pub loop-init : goal.loop-init
-loop-init g c = λ a b m. absurd (false≢true (sym (c.none-above.ensures a b) ∙ m))
 
 pub loop-smaller : goal.loop-smaller
 loop-smaller g c =

@@ -1,14 +1,10 @@
-use Rattle.std.proofs.Common.{eqb, sym, refl, ◌∙◌, arith}
-use Rattle.std.proofs.lemmas.Bool.{and_parts, and_from, eq-eqb, eqb-true, false≢true}
+use Rattle.std.proofs.Common.{eqb, refl, arith}
+use Rattle.std.proofs.lemmas.Bool.{and_parts, and_from, eq-eqb, eqb-true}
 use Rattle.charts.specs.Members.{member}
 use Rattle.charts.specs.Passes.{reached_from, Is}
-use Rattle.charts.proofs.Found.{missing_less, all_found, chain_from_account}
+use Rattle.charts.proofs.Found.{missing_less, all_found}
 use Rattle.charts.proofs.Reached.{member_account}
 use Rattle.charts.proofs.reach.search.Goals as goal
-
-pub returns-then-start-ge-ACCOUNTS : goal.returns-then-start-ge-ACCOUNTS
-returns-then-start-ge-ACCOUNTS g c =
-    λ b. ((λ m. absurd (false≢true (sym (c.none-reached.ensures b) ∙ m))), (λ chain. absurd (omega (arith, chain_from_account chain, c.if-start-ge-ACCOUNTS.true))))
 
 pub loop-smaller : goal.loop-smaller
 loop-smaller g c =

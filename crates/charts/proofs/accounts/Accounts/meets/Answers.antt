@@ -1,13 +1,12 @@
-use Rattle.std.proofs.Common.{get_or, refl, arith}
-use Rattle.std.proofs.lemmas.Bool.{false≢true}
-use Rattle.std.proofs.lemmas.Nat.{and_le_l}
-use Rattle.charts.proofs.Words.{apart, common}
+use Rattle.std.proofs.Common.{rules}
+use borrow.Author.Tests.{tests}
+use Rattle.std.proofs.lemmas.Iterator.{YieldsList-from_slice, YieldsList-from_zip, cases_from_any}
+use Rattle.charts.proofs.Words.{Shared, met}
 use Rattle.charts.proofs.accounts.Accounts.meets.Goals as goal
 
-pub returns-then-word-more-ne0 : goal.returns-then-word-more-ne0
-returns-then-word-more-ne0 c =
-    let found = common c.args.self.now.words c.args.other.now.words c.loop-k.k c.loop-k-test.true (omega (arith, and_le_l (get_or c.args.self.now.words c.loop-k.k 0) (get_or c.args.other.now.words c.loop-k.k 0))) c.if-word-more-ne0.true in
-    ((λ _. found), (λ _. refl))
-
 pub returns : goal.returns
-returns c = ((λ e. absurd (false≢true e)), (λ both. absurd (apart c.args.self.now.words c.args.other.now.words c.loop-k.k c.loop-k-test.false c.loop-k.invariant both.0 both.1 both.2)))
+returns c =
+    let ws = c.args.self.now.words in
+    let os = c.args.other.now.words in
+    met ws os c.any.result (cc) (cc)
+    (cases_from_any c.any.new.self _ c.any.result Shared (λ p. Shared p → ⊥) c.any.ensures.ran (YieldsList-from_zip {s = c.zip.result} (YieldsList-from_slice ws (cc)) (YieldsList-from_slice os (cc))) (λ x q k. search (rules, tests)) (λ x q k. search (rules, tests)))

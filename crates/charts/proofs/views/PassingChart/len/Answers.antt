@@ -1,9 +1,6 @@
-use Rattle.std.proofs.Common.{sym, ◌∙◌}
+use Rattle.std.proofs.Common.{rules}
 use Rattle.charts.proofs.Viewed.{length_passing}
 use Rattle.charts.proofs.views.PassingChart.len.Goals as goal
 
-pub returns : goal.returns
-returns g c = record {
-  value = c.len.ensures.value ∙ sym (length_passing (g.C.SignedChart.signs c.args.self.now.chart.now) 0 (g.C.Chart.lines c.args.self.now.chart.now));
-  bound = c.len.ensures.bound;
-}
+pub returns-clause-value : goal.returns-clause-value
+returns-clause-value g c = search (rules, length_passing)
