@@ -1,5 +1,6 @@
 -- What a table holds, and what its calls look for. Assumes nothing.
-use Rattle.std.specs.Prelude.{ℕ, ◌+◌, Bool, cond, List, [], ◌∷◌, length, take, Some, None, Option, nat_lt}
+use Rattle.std.specs.Prelude.{ℕ, Bool, cond, List, [], ◌∷◌, length, take, Option, nat_lt}
+use Rattle.std.specs.List.{find}
 use Rattle.table.specs.declared.Table.{Table}
 
 -- all cells lent to the table, used or not
@@ -20,18 +21,9 @@ roomy t = nat_lt (length (used t)) (room t)
 
 -- the first record that passes the test
 abbrev pub first : {R : Type 0} → (R → Bool) → List R → Option R
-first test [] = None
-first test (x ∷ xs) = cond (test x) (Some x) (first test xs)
+first test xs = find test xs
 
 -- y in the place of the first record that passes the test
 abbrev pub replaced : {R : Type 0} → (R → Bool) → R → List R → List R
 replaced test y [] = []
 replaced test y (x ∷ xs) = cond (test x) (y ∷ xs) (x ∷ replaced test y xs)
-
--- the place of the first record that passes the test, where the list begins at place i
-abbrev pub place_from : {R : Type 0} → ℕ → (R → Bool) → List R → Option ℕ
-place_from i test [] = None
-place_from i test (x ∷ xs) = cond (test x) (Some i) (place_from (i + 1) test xs)
-
-abbrev pub place : {R : Type 0} → (R → Bool) → List R → Option ℕ
-place test xs = place_from 0 test xs

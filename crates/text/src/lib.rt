@@ -1,61 +1,54 @@
-// Text, put into a buffer piece by piece. What lies behind the text keeps its contents.
+// A text of bounded length, put together piece by piece. Its bytes lie in the value, so it needs no allocator.
 #![tactic(auto)]
 
-ghost use Rattle.std.specs.Prelude.{◌≡◌, ℕ, ◌+◌, ◌<◌, ◌≤◌, List, ◌++◌, length, decimal, nat_le};
-ghost use Rattle.text.specs.Text.{Holds};
+ghost use Rattle.std.specs.Prelude.{◌≡◌, ℕ, ◌+◌, ◌≤◌, ◌↔◌, List, [], ◌++◌, length, IsOk, OnOk, OnErr};
 
-// Puts the text at a place and tells the place behind it; a text that does not fit is not put, and `at` is told.
-pub fn put(buffer: &mut [u8], at: usize, text: &[u8]) -> usize
-    ensures value { at + length text.now ≤ length buffer.old → result ≡ at + length text.now }
-    ensures after { at + length text.now ≤ length buffer.old → (base front : List ℕ) → Holds base front at buffer.old → Holds base (front ++ text.now) result buffer.new }
-    ensures refused { length buffer.old < at + length text.now → (result ≡ at) × (buffer.new ≡ buffer.old) }
-{
-    if !fits(buffer.len(), at, text.len()) {
-        return at;
-    }
-    let end = at + text.len();
-    let part = &mut buffer[at..end];
-    part.copy_from_slice(text);
-    end
+use arrayvec::{ArrayVec, CapacityError};
+use itoa::{Buffer, Integer};
+use std::marker::Model;
+
+#[derive(Drop)]
+pub struct Text<const CAPACITY: usize> {
+    bytes: ArrayVec<u8, CAPACITY>,
 }
 
-// Puts the number in decimal, with no leading zeros, as `put` puts a text.
-pub fn put_number(buffer: &mut [u8], at: usize, value: usize) -> usize
-    ensures value { at + length (decimal value) ≤ length buffer.old → result ≡ at + length (decimal value) }
-    ensures after { at + length (decimal value) ≤ length buffer.old → (base front : List ℕ) → Holds base front at buffer.old → Holds base (front ++ decimal value) result buffer.new }
-    ensures refused { length buffer.old < at + length (decimal value) → (result ≡ at) × (buffer.new ≡ buffer.old) }
-{
-    if !fits(buffer.len(), at, digits(value)) {
-        return at;
-    }
-    put_digits(buffer, at, value)
+impl<const CAPACITY: usize> Model for Text<CAPACITY> {
+    ghost Value = { List ℕ };
+
+    ghost view = { λ text. text.bytes.items };
 }
 
-// Whether so many bytes fit from a place on.
-fn fits(room: usize, at: usize, count: usize) -> bool
-    ensures { result ≡ nat_le (at + count) room }
-{
-    at <= room && count <= room - at
-}
-
-// How many digits a number has.
-fn digits(value: usize) -> usize
-    ensures { result ≡ length (decimal value) }
-{
-    if value < 10 {
-        return 1;
+impl<const CAPACITY: usize> Text<CAPACITY> {
+    pub fn new() -> Self
+        ensures { result ≡ [] }
+    {
+        Text {
+            bytes: ArrayVec::new(),
+        }
     }
-    digits(value / 10) + 1
-}
 
-fn put_digits(buffer: &mut [u8], at: usize, value: usize) -> usize
-    requires { at + length (decimal value) ≤ length buffer.old }
-    ensures value { result ≡ at + length (decimal value) }
-    ensures after { (base front : List ℕ) → Holds base front at buffer.old → Holds base (front ++ decimal value) result buffer.new }
-{
-    if value < 10 {
-        return put(buffer, at, &[b'0' + value as u8]);
+    pub fn as_bytes(&self) -> &[u8]
+        ensures value { result.now ≡ self.now }
+        ensures fits { length result.now ≤ CAPACITY }
+    {
+        self.bytes.as_slice()
     }
-    let last = put_digits(buffer, at, value / 10);
-    put(buffer, last, &[b'0' + (value % 10) as u8])
+
+    // Puts a piece behind the text. One that does not fit is refused, and leaves the text as it was.
+    pub fn put(&mut self, piece: &[u8]) -> Result<(), CapacityError>
+        ensures fits { IsOk result ↔ (length self.old + length piece.now ≤ CAPACITY) }
+        ensures put { OnOk result (self.new ≡ self.old ++ piece.now) }
+        ensures refused { OnErr result (self.new ≡ self.old) }
+    {
+        self.bytes.try_extend_from_slice(piece)
+    }
+
+    // Puts the number in decimal, with no leading zeros, as `put` puts a piece.
+    pub fn put_number<I: Integer>(&mut self, value: I) -> Result<(), CapacityError>
+        ensures fits { IsOk result ↔ (length self.old + length (I.text value) ≤ CAPACITY) }
+        ensures put { OnOk result (self.new ≡ self.old ++ I.text value) }
+        ensures refused { OnErr result (self.new ≡ self.old) }
+    {
+        self.put(Buffer::new().format(value).as_bytes())
+    }
 }

@@ -1,13 +1,19 @@
-use Rattle.std.proofs.Common.{◌<◌, length, sym, arith}
+use Rattle.std.proofs.Common.{◌<◌, length, refl, arith, of_calls}
+use Rattle.std.proofs.lemmas.Fn.{called_at}
+use Rattle.std.specs.Fn.{CalledAt}
 use Rattle.table.proofs.Compacted.{more_goes, more_stays}
+use Rattle.table.proofs.compact.Goals.{then-keep, else-keep}
 use Rattle.table.proofs.compact.Goals as goal
-use Rattle.table.proofs.compact.Goals.{then-keeps, else-keeps}
 
 pub loop-i-preserved : goal.loop-i-preserved
 loop-i-preserved g c =
-    let xs = c.args.cells.now in
-    let within : c.loop-i.i < length xs = omega arith in
-    elim c.if-keeps.branch [
-      | then-keeps w ↦ rw (w.cells-is, w.stay-is) (more_stays (g.K.Retain.stays c.args.rule.now) xs c.loop-i.invariant _ within c.index-cells-i.is (sym w.if-keeps.ensures))
-      | else-keeps w ↦ rw (w.cells-is, w.stay-is) (more_goes (g.K.Retain.stays c.args.rule.now) xs c.loop-i.invariant _ within c.index-cells-i.is (sym w.if-keeps.ensures))
-    ]
+    let at = c.loop-i in
+    let R = CalledAt g.F.FnMut in
+    let within : at.i < length c.args.cells.now = omega arith in
+    let asked = called_at g.F.FnMut c.keep.ensures refl in (
+      search of_calls,
+      elim c.if-keep.branch [
+        | then-keep w ↦ rw (w.cells-is, w.stay-is) (more_stays R c.args.keep c.args.cells.now at.invariant.1 c.keep.new.self _ within at.auto.cells c.index-cells-i.is (rw w.if-keep.true at asked))
+        | else-keep w ↦ rw (w.cells-is, w.stay-is) (more_goes R c.args.keep c.args.cells.now at.invariant.1 c.keep.new.self _ within at.auto.cells c.index-cells-i.is (rw w.if-keep.false at asked))
+      ],
+    )

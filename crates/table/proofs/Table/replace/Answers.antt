@@ -1,39 +1,32 @@
-use Rattle.std.proofs.Common.{◌<◌, length, take, is_some, sym, refl, ap, ◌∙◌, arith}
-use Rattle.std.proofs.lemmas.List.{length-take, length-set}
-use Rattle.table.specs.Used.{place}
-use Rattle.table.proofs.Cells.{take_set_within, set_within, part_rest}
-use Rattle.table.proofs.Places.{first_at, replaced_at, found_nowhere}
+use Rattle.std.proofs.Common.{sym, ◌∙◌, ◌<◌, arith}
+use Rattle.std.proofs.lemmas.List.{length-take}
+use Rattle.std.proofs.Math.Seq.{take-set-lt}
+use Rattle.table.specs.Used.{used}
+use Rattle.table.proofs.Cells.{set_within}
+use Rattle.table.proofs.Places.{within_at, found_at, replaced_at, not_found, replaced_nowhere}
+use Rattle.table.proofs.Table.replace.Given.{Over}
+use Rattle.table.proofs.Table.replace.Goals.{In-Some}
 use Rattle.table.proofs.Table.replace.Goals as goal
 
-pub put-requires : goal.put-requires
-put-requires g c =
-    omega (arith, c.in-Some.ensures.bound, ap length c.used.ensures, length-take c.args.self.now.len c.args.self.now.cells.now)
+pub returns-in_default-clause-value : goal.returns-in_default-clause-value
+returns-in_default-clause-value g c = rw (not_found _ (used c.args.self.now) c.in_default.ensures)
 
-pub returns-in_default : goal.returns-in_default
-returns-in_default g c =
-    let test = λ (x : g.row.R.Denot). g.R.Record.has x c.args.key in
-    let all = c.args.self.now.cells.now in
-    let xs = take c.args.self.now.len all in
-    let nowhere = found_nowhere test 0 xs (ap (place test) (sym c.used.ensures) ∙ sym c.in_default.ensures.value) in
-    record {
-      value = rw (ap is_some nowhere.0) refl;
-      used = sym (nowhere.1 c.args.item);
-      cells = part_rest all c.args.self.now.len;
-      room = refl;
-    }
+pub returns-in_default-clause-used : goal.returns-in_default-clause-used
+returns-in_default-clause-used g c = sym (replaced_nowhere _ (used c.args.self.now) c.in_default.ensures c.args.item)
 
-pub returns : goal.returns
-returns g c =
-    let test = λ (x : g.row.R.Denot). g.R.Record.has x c.args.key in
-    let all = c.args.self.now.cells.now in
-    let n = c.args.self.now.len in
-    let at = c.in-Some.at in
-    let y = c.args.item in
-    let within : at < length (take n all) = omega (arith, c.in-Some.ensures.bound, ap length c.used.ensures) in
-    let here = c.in-Some.ensures.value ∙ ap (place test) c.used.ensures in
-    record {
-      value = rw (ap is_some (first_at test at (take n all) here y)) refl;
-      used = ap (take n) c.put.ensures ∙ take_set_within all n at y within ∙ sym (replaced_at test at (take n all) here y);
-      cells = rw c.put.ensures (set_within all n at y within);
-      room = ap length c.put.ensures ∙ length-set all at y;
-    }
+below : (g : Over) (c : In-Some g) → c.in-Some.at < c.args.self.now.len
+below g c = omega (arith, within_at _ _ (used c.args.self.now) c.in-Some.ensures, length-take c.args.self.now.len c.args.self.now.cells.now)
+
+pub returns-clause-value : goal.returns-clause-value
+returns-clause-value g c = rw (found_at _ _ (used c.args.self.now) c.in-Some.ensures)
+
+pub returns-clause-used : goal.returns-clause-used
+returns-clause-used g c =
+    let was = c.args.self.now in
+    take-set-lt was.len was.cells.now c.in-Some.at c.args.item (below g (goal.at.returns-clause-used g c).In-Some)
+    ∙ sym (replaced_at _ _ (used was) c.in-Some.ensures c.args.item)
+
+pub returns-clause-cells : goal.returns-clause-cells
+returns-clause-cells g c =
+    let was = c.args.self.now in
+    set_within was.cells.now was.len c.in-Some.at c.args.item (below g (goal.at.returns-clause-cells g c).In-Some) was.within
