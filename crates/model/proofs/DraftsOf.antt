@@ -1,6 +1,8 @@
 -- The record of a draft as drafts are opened, changed and closed. Assumes nothing.
 use Rattle.std.proofs.Common.{◌≡◌, ℕ, true, false, cond, not, eqb, List, [], ◌∷◌, ◌++◌, Some, None, filter, Option, sym, refl, ap, ◌∙◌, arith}
+use Rattle.std.specs.Option.{option_or}
 use Rattle.std.proofs.lemmas.Bool.{eqb-true, eq-eqb, ne_eqb}
+use Rattle.std.proofs.lemmas.List.Folds.{find-append}
 use Rattle.table.specs.Used.{first, replaced}
 use Rattle.model.specs.declared.records.DraftRecord.{DraftRecord}
 use Rattle.model.specs.Keys.{by_draft}
@@ -15,16 +17,11 @@ found_draft d (z ∷ zs) x found =
     ] refl found
 
 pub opened_own : (x : DraftRecord) (xs : List DraftRecord) → first (by_draft x.draft) xs ≡ None → first (by_draft x.draft) (xs ++ x ∷ []) ≡ Some x
-opened_own x [] absent = rw (eq-eqb x.draft x.draft refl) refl
-opened_own x (z ∷ zs) absent =
-    elim (eqb z.draft x.draft) as (λ b. cond b (Some z) (first (by_draft x.draft) zs) ≡ None → cond b (Some z) (first (by_draft x.draft) (zs ++ x ∷ [])) ≡ Some x) [
-      | true ↦ λ e. let z : ◌≡◌ {A = ℕ} 0 1 = cc in absurd (omega arith)
-      | false ↦ λ e. opened_own x zs e
-    ] absent
+opened_own x xs absent = rw (find-append (by_draft x.draft) xs (x ∷ []), absent, eq-eqb x.draft x.draft refl) refl
 
 pub opened_other : (d : ℕ) (x : DraftRecord) (xs : List DraftRecord) → (x.draft ≡ d → ⊥) → first (by_draft d) (xs ++ x ∷ []) ≡ first (by_draft d) xs
-opened_other d x [] other = rw (ne_eqb x.draft d other) refl
-opened_other d x (z ∷ zs) other = ap (λ (o : Option DraftRecord). cond (eqb z.draft d) (Some z) o) (opened_other d x zs other)
+opened_other d x xs other = rw (find-append (by_draft d) xs (x ∷ []), ne_eqb x.draft d other)
+    (elim (first (by_draft d) xs) as (λ o. option_or o None ≡ o) [ None ↦ refl | Some y ↦ refl ])
 
 pub closed_own : (d : ℕ) (xs : List DraftRecord) → first (by_draft d) (filter (λ x. not (by_draft d x)) xs) ≡ None
 closed_own d [] = refl

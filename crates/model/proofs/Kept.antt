@@ -1,14 +1,10 @@
 -- Lists of which some are kept. Assumes nothing.
 use Rattle.std.proofs.Common.{◌≡◌, ℕ, Bool, true, false, cond, ◌&&◌, List, [], ◌∷◌, map, Some, filter, sym, refl, ap, ◌∙◌, arith}
 use Rattle.std.specs.List.{AllByRecursion}
+use Rattle.std.proofs.lemmas.List.Elements.{filter_agree}
 use Rattle.table.specs.Used.{first}
 
 module _ {X : Type 0} where
-  -- the same test, told otherwise
-  pub kept_same : (p q : X → Bool) → ((x : X) → p x ≡ q x) → (xs : List X) → filter p xs ≡ filter q xs
-  kept_same p q same [] = refl
-  kept_same p q same (x ∷ xs) = rw (same x, kept_same p q same xs) refl
-
   pub kept_twice : (p q : X → Bool) (xs : List X) → filter p (filter q xs) ≡ filter (λ x. q x && p x) xs
   kept_twice p q [] = refl
   kept_twice p q (x ∷ xs) =
@@ -18,7 +14,7 @@ module _ {X : Type 0} where
       ]
 
   pub kept_swap : (p q : X → Bool) (xs : List X) → filter p (filter q xs) ≡ filter q (filter p xs)
-  kept_swap p q xs = kept_twice p q xs ∙ kept_same (λ x. q x && p x) (λ x. p x && q x) (λ x. either_order (q x) (p x)) xs ∙ sym (kept_twice q p xs)
+  kept_swap p q xs = kept_twice p q xs ∙ filter_agree (λ x. q x && p x) (λ x. p x && q x) (λ x. either_order (q x) (p x)) xs ∙ sym (kept_twice q p xs)
     where
       either_order : (a b : Bool) → (a && b) ≡ (b && a)
       either_order true true = refl
@@ -28,7 +24,7 @@ module _ {X : Type 0} where
 
   -- what passes p passes q
   pub kept_implied : (p q : X → Bool) → ((x : X) → p x ≡ true → q x ≡ true) → (xs : List X) → filter p (filter q xs) ≡ filter p xs
-  kept_implied p q implied xs = kept_twice p q xs ∙ kept_same (λ x. q x && p x) p (λ x. both (q x) (p x) (implied x)) xs
+  kept_implied p q implied xs = kept_twice p q xs ∙ filter_agree (λ x. q x && p x) p (λ x. both (q x) (p x) (implied x)) xs
     where
       both : (a b : Bool) → (b ≡ true → a ≡ true) → (a && b) ≡ b
       both true b so = refl

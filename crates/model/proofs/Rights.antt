@@ -1,6 +1,6 @@
 -- The grants of one right on one draft, as grants come and go. Assumes nothing.
 use Rattle.std.proofs.Common.{◌≡◌, ℕ, Bool, true, false, cond, not, ◌&&◌, ◌||◌, eqb, List, [], ◌∷◌, ◌++◌, map, is_some, Some, filter, sym, refl, ap, ◌∙◌, inl, inr}
-use Rattle.std.proofs.lemmas.List.Elements.{filter-append}
+use Rattle.std.proofs.lemmas.List.Elements.{filter-append, filter_agree}
 use Rattle.std.proofs.lemmas.List.{map_push, append-nil}
 use Rattle.std.proofs.lemmas.Bool.{true≢false, eqb-true, ne_eqb, and_parts, cases_Bool, not_from_false, or_left}
 use Rattle.table.specs.Used.{first}
@@ -8,7 +8,7 @@ use Rattle.model.specs.declared.records.GrantRecord.{GrantRecord}
 use Rattle.model.specs.Delegation.{between, unless, rooted}
 use Rattle.model.specs.Grants.{is_on_draft, on_right, mark_of, of_right, key_of, without, still_rooted}
 use Rattle.model.specs.Keys.{by_grant}
-use Rattle.model.proofs.Kept.{kept_same, kept_twice, kept_implied, kept_map}
+use Rattle.model.proofs.Kept.{kept_twice, kept_implied, kept_map}
 use Rattle.model.proofs.Marked.{rooted_part}
 
 -- one more grant
@@ -42,7 +42,7 @@ pub right_without : (d r c a : ℕ) (gs : List GrantRecord) → of_right d r (wi
 right_without d r c a gs =
     let here = λ (g : GrantRecord). between c a (mark_of g) in
     ap (map mark_of) (kept_twice (on_right d r) (λ g. not (by_grant (key_of d r c a) g)) gs
-    ∙ kept_same (λ g. not (by_grant (key_of d r c a) g) && on_right d r g) (λ g. on_right d r g && not (here g)) (λ g. each (eqb g.draft d) (eqb g.right r) (here g)) gs
+    ∙ filter_agree (λ g. not (by_grant (key_of d r c a) g) && on_right d r g) (λ g. on_right d r g && not (here g)) (λ g. each (eqb g.draft d) (eqb g.right r) (here g)) gs
     ∙ sym (kept_twice (λ g. not (here g)) (on_right d r) gs))
     ∙ sym (kept_map mark_of (λ m. not (between c a m)) (filter (on_right d r) gs))
   where
@@ -56,7 +56,7 @@ right_without d r c a gs =
 right_tested : (d r : ℕ) (f : ℕ → Bool) (gs : List GrantRecord) → of_right d r (filter (λ g. not (on_right d r g) || f g.grantor) gs) ≡ filter (λ m. f m.from) (of_right d r gs)
 right_tested d r f gs =
     ap (map mark_of) (kept_twice (on_right d r) (λ g. not (on_right d r g) || f g.grantor) gs
-    ∙ kept_same (λ g. (not (on_right d r g) || f g.grantor) && on_right d r g) (λ g. on_right d r g && f g.grantor) (λ g. each (on_right d r g) (f g.grantor)) gs
+    ∙ filter_agree (λ g. (not (on_right d r g) || f g.grantor) && on_right d r g) (λ g. on_right d r g && f g.grantor) (λ g. each (on_right d r g) (f g.grantor)) gs
     ∙ sym (kept_twice (λ g. f g.grantor) (on_right d r) gs))
     ∙ sym (kept_map mark_of (λ m. f m.from) (filter (on_right d r) gs))
   where

@@ -1,9 +1,8 @@
 -- Grants and withdrawals keep the grants of a right sound. Assumes nothing.
 use Rattle.std.proofs.Common.{◌≡◌, ℕ, ◌<◌, Bool, true, false, not, eqb, ltb, ◌⊎◌, List, [], ◌∷◌, ◌++◌, length, get_or, is_some, Some, None, filter, sym, refl, ap, ◌∙◌, subst, inl, inr, ⊎_elim, arith}
-use mathlib.Core.Bool.{Bool-set}
-use mathlib.Core.HLevel.{⊥_prop}
-use mathlib.Core.Logic.{∥∥₁_elim}
-use native.Mathlib.Nat.{ℕ_set}
+use Rattle.std.proofs.Math.Bool.{Bool-set}
+use Rattle.std.proofs.Math.Logic.{∥∥₁_elim}
+use Rattle.std.proofs.Math.Nat.{ℕ_set}
 use Rattle.std.proofs.lemmas.Bool.{or_cases, or_left, or_right, and_parts, and_from, eqb-true, eq-eqb, lt-ltb, both_ways, false≢true}
 use Rattle.terms.specs.declared.Kind.{Kind}
 use Rattle.terms.specs.declared.Kind.TheVariants.{Denying, Plain, Delegatable}
@@ -210,7 +209,7 @@ sound_withdrawn owner c a ms sound =
 pub sound_known : (owner : ℕ) (ms : List Mark) → ∥ Sound owner ms ∥₁ → Sound owner ms
 sound_known owner ms known = record {
   between = λ at l is. ∥∥₁_elim known (Bool-set _ _) (λ s. s.between at l is);
-  no_circle = λ a chain. ∥∥₁_elim known ⊥_prop (λ s. s.no_circle a chain);
+  no_circle = λ a chain. ∥∥₁_elim known (λ x y. absurd x) (λ s. s.no_circle a chain);
   one_each = λ a b i j first second. ∥∥₁_elim known (ℕ_set _ _) (λ s. s.one_each a b i j first second);
   rooted = λ at from to leads. rooted_reached owner ms from (∥∥₁_elim known (Bool-set _ _) (λ s. reached_rooted owner ms from (s.rooted at from to leads)));
 }

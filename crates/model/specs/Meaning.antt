@@ -1,8 +1,7 @@
 -- What a call replies, and what it leaves. Assumes nothing.
-use Rattle.std.specs.Prelude.{ℕ, zero, suc, ◌+◌, ◌-◌, not, List, [], ◌∷◌, ◌++◌, length, drop, Some, None, count_by, filter, Option}
+use Rattle.std.specs.Prelude.{ℕ, ◌+◌, ◌-◌, not, List, [], ◌∷◌, ◌++◌, length, drop, Some, None, count_by, filter, Option}
 use Rattle.table.specs.Used.{replaced}
-use Rattle.terms.specs.declared.Kind.{Kind}
-use Rattle.terms.specs.declared.Kind.TheVariants.{Denying, Plain, Delegatable}
+pub use Rattle.terms.specs.Kinds.{kind_of}
 use Rattle.rulings.specs.Ranking.{Ranking}
 use Rattle.model.specs.declared.answers.Decision.TheVariants.{Undecided}
 use Rattle.model.specs.declared.records.DraftRecord.{DraftRecord}
@@ -18,11 +17,6 @@ use Rattle.model.specs.State.{State, state, draft_of}
 
 -- Each call but an opening has a meaning only where the draft is open: what is said for one that is not stands
 -- for nothing, since such a call is refused.
-
-abbrev pub kind_of : ℕ → Kind
-kind_of zero = Denying
-kind_of (suc zero) = Plain
-kind_of (suc (suc k)) = Delegatable
 
 -- the serial that the next grant on the draft gets
 abbrev pub next_serial : Option DraftRecord → ℕ

@@ -1,5 +1,5 @@
-// What the register decides on a request. The account whose grant decides stands beside it.
-#[derive(Clone, Copy)]
+// What the register decides on a request. A request answers with a pair of this and the account whose grant decides.
+#[derive(Clone, Copy, Debug, PartialEq, Eq)]
 pub enum Decision {
     Permitted,
     Denied,

@@ -1,12 +1,14 @@
 // The records of a register's two tables.
-ghost use Rattle.model.specs.Keys.{by_draft, by_grant};
+ghost use Rattle.std.specs.Prelude.{◌≡◌};
+ghost use Rattle.model.specs.Grants.{key_of, mark_of};
 
+use charts::Mark;
 use table::Record;
 use terms::Kind;
 
 // An open draft: its owner, the policy by which requests on it are decided, how many grants it may hold,
 // and the last serial given to one.
-#[derive(Clone, Copy)]
+#[derive(Clone, Copy, Debug, PartialEq, Eq, Default)]
 pub struct DraftRecord {
     pub draft: u16,
     pub owner: u16,
@@ -16,7 +18,7 @@ pub struct DraftRecord {
 }
 
 // A standing grant of a right on a draft: who made it, whom it names, and what it does.
-#[derive(Clone, Copy)]
+#[derive(Clone, Copy, Debug, PartialEq, Eq, Default)]
 pub struct GrantRecord {
     pub draft: u16,
     pub right: u8,
@@ -27,7 +29,7 @@ pub struct GrantRecord {
 }
 
 // A grantor makes at most one grant of a right on a draft to an account.
-#[derive(Clone, Copy)]
+#[derive(Clone, Copy, Debug, PartialEq, Eq)]
 pub struct GrantKey {
     pub draft: u16,
     pub right: u8,
@@ -35,47 +37,41 @@ pub struct GrantKey {
     pub account: u16,
 }
 
-// What fills memory that is lent to a register; none of it is read.
-impl DraftRecord {
-    pub const BLANK: DraftRecord = DraftRecord {
-        draft: 0,
-        owner: 0,
-        policy: 0,
-        cells: 0,
-        last: 0,
-    };
-}
-
-impl GrantRecord {
-    pub const BLANK: GrantRecord = GrantRecord {
-        draft: 0,
-        right: 0,
-        grantor: 0,
-        account: 0,
-        kind: Kind::Denying,
-        serial: 0,
-    };
-}
-
 impl Record for DraftRecord {
     type Key = u16;
 
-    ghost has = { λ x key. by_draft key x };
+    ghost key = { λ x. x.draft };
 
-    fn has_key(&self, key: u16) -> bool {
-        key == self.draft
+    fn key(&self) -> u16 {
+        self.draft
     }
 }
 
 impl Record for GrantRecord {
     type Key = GrantKey;
 
-    ghost has = { λ x key. by_grant key x };
+    ghost key = { λ x. key_of x.draft x.right x.grantor x.account };
 
-    fn has_key(&self, key: GrantKey) -> bool {
-        self.draft == key.draft
-            && self.right == key.right
-            && self.grantor == key.grantor
-            && self.account == key.account
+    fn key(&self) -> GrantKey {
+        GrantKey {
+            draft: self.draft,
+            right: self.right,
+            grantor: self.grantor,
+            account: self.account,
+        }
+    }
+}
+
+// A grant as a line of the chart of its right.
+impl From<&GrantRecord> for Mark {
+    ghost from_gives = { λ g m. m ≡ mark_of g.now };
+
+    fn from(grant: &GrantRecord) -> Mark {
+        Mark {
+            from: grant.grantor,
+            to: grant.account,
+            kind: grant.kind,
+            serial: grant.serial,
+        }
     }
 }

@@ -77,7 +77,7 @@ module _ {lines lines' : List (Option Line)} {signs signs' : ℕ → Sign} {In :
   module _ (owner : ℕ) (picks picks' : Picks) (a : ℕ) (within : In a) (below : (at u : ℕ) → Leads lines at u a → PickedAlike lines lines' signs signs' picks picks' u) where
     passes_there : (u : ℕ) → PickedAlike lines lines' signs signs' picks picks' u → Passes signs owner picks u → Passes signs' owner picks' u
     passes_there u (inl none) (inl own) = inl own
-    passes_there u (inl none) (inr picked) = let some = sym none.0 ∙ picked.1 in let z : ◌≡◌ {A = ℕ} 0 1 = cc in absurd (omega arith)
+    passes_there u (inl none) (inr picked) = let some = sym none.0 ∙ picked.1 in absurd cc
     passes_there u (inr both) (inl own) = inl own
     passes_there u (inr both) (inr picked) =
         let some = sym both.3 ∙ picked.1 in
@@ -96,7 +96,7 @@ module _ {lines lines' : List (Option Line)} {signs signs' : ℕ → Sign} {In :
     -- who has a pick in the one chart has one in the other
     picked_there : (R : Ranking) (p i : ℕ) → Settled lines signs owner R p picks → Settled lines' signs' owner R p picks' → picks a ≡ Some i → picks' a ≡ None → ⊥
     picked_there R p i s t is none =
-        ⊎_elim (λ (own : a ≡ owner). let clash = sym s.owner_none ∙ ap picks (sym own) ∙ is in let z : ◌≡◌ {A = ℕ} 0 1 = cc in absurd (omega arith))
+        ⊎_elim (λ (own : a ≡ owner). let clash = sym s.owner_none ∙ ap picks (sym own) ∙ is in absurd cc)
         (λ other.
         let e = s.eligible a i is in
         let f = alike.there a i e.from within e.leads in

@@ -1,30 +1,33 @@
 -- The best of the places that pass. Assumes nothing.
-use Rattle.std.proofs.Common.{◌≡◌, ℕ, zero, suc, ◌<◌, ◌≤◌, Bool, true, false, cond, not, ◌&&◌, ◌||◌, ltb, ◌⊎◌, Some, None, Option, sym, refl, ap, ◌∙◌, subst, inl, inr, ⊎_elim, arith}
-use Rattle.std.proofs.lemmas.Bool.{or_cases, or_parts, and_parts, and_cases, ltb-true, ltb-false, not-true, not-false, cases_Bool, cases_eq, cases_lt, true≢false}
+use Rattle.std.proofs.Common.{◌≡◌, ℕ, zero, suc, ◌<◌, ◌≤◌, Bool, true, false, cond, not, ◌&&◌, ◌||◌, ltb, ◌⊎◌, Some, None, Option, if◌then◌else◌, sym, refl, ap, ◌∙◌, subst, inl, inr, ⊎_elim, arith}
+use Rattle.std.specs.Option.{option_map_or}
+use Rattle.std.proofs.lemmas.Bool.{or_cases, or_parts, and_parts, and_cases, ltb-true, ltb-false, not-true, not-false, cases_Bool, cases_eq, true≢false}
 use Rattle.settlement.specs.Picking.{prefer, best}
 
-below_suc : (j i : ℕ) → j < suc i → (j ≡ i → ⊥) → j < i
-below_suc j i below other = ⊎_elim (λ l. l) (λ past. absurd (other (omega arith))) (cases_lt j i)
+-- the preferred place, by whether none is held or the one held loses
+pub prefer_told : (wins : ℕ → ℕ → Bool) (i : ℕ) (held : Option ℕ) → prefer wins i held ≡ (if option_map_or (wins i) held true then Some i else held)
+prefer_told wins i None = refl
+prefer_told wins i (Some h) = refl
 
 module _ (wins : ℕ → ℕ → Bool) (passes : ℕ → Bool) where
   preferred : (i : ℕ) (held : Option ℕ) (at : ℕ) → prefer wins i held ≡ Some at → (at ≡ i) ⊎ (held ≡ Some at)
-  preferred i None at is = inl (let e : at ≡ i = cc in e)
+  preferred i None at is = inl cc
   preferred i (Some h) at is =
       elim (wins i h) as (λ b. cond b (Some i) (Some h) ≡ Some at → (at ≡ i) ⊎ (Some h ≡ Some at)) [
-        | true ↦ λ e. inl (let f : at ≡ i = cc in f)
+        | true ↦ λ e. inl cc
         | false ↦ λ e. inr e
       ] is
 
   not_none : (i : ℕ) (held : Option ℕ) → prefer wins i held ≡ None → ⊥
-  not_none i None is = let z : ◌≡◌ {A = ℕ} 0 1 = cc in omega arith
+  not_none i None is = cc
   not_none i (Some h) is =
       elim (wins i h) as (λ b. cond b (Some i) (Some h) ≡ None → ⊥) [
-        | true ↦ λ e. let z : ◌≡◌ {A = ℕ} 0 1 = cc in omega arith
-        | false ↦ λ e. let z : ◌≡◌ {A = ℕ} 0 1 = cc in omega arith
+        | true ↦ λ e. cc
+        | false ↦ λ e. cc
       ] is
 
   pub best_some : (n at : ℕ) → best wins n passes ≡ Some at → (at < n) × (passes at ≡ true)
-  best_some zero at is = let z : ◌≡◌ {A = ℕ} 0 1 = cc in absurd (omega arith)
+  best_some zero at is = absurd cc
   best_some (suc i) at is =
       ⊎_elim
       (λ (yes_i : passes i ≡ true).
@@ -41,7 +44,7 @@ module _ (wins : ℕ → ℕ → Bool) (passes : ℕ → Bool) where
       (λ (yes_i : passes i ≡ true). not_none i (best wins i passes) (sym (ap (λ t. cond t (prefer wins i (best wins i passes)) (best wins i passes)) yes_i) ∙ is))
       (λ (no_i : passes i ≡ false).
       ⊎_elim (λ (here : j ≡ i). true≢false (sym yes_j ∙ ap passes here ∙ no_i))
-      (λ other. best_none i (sym (ap (λ t. cond t (prefer wins i (best wins i passes)) (best wins i passes)) no_i) ∙ is) j (below_suc j i below other) yes_j)
+      (λ other. best_none i (sym (ap (λ t. cond t (prefer wins i (best wins i passes)) (best wins i passes)) no_i) ∙ is) j (omega arith) yes_j)
       (cases_eq j i))
       (cases_Bool (passes i))
 
@@ -84,7 +87,7 @@ module _ (ge : ℕ → ℕ → Bool) (g : ℕ → ℕ) (total : (i j : ℕ) → 
       let here : at ≡ i = cc in
       subst (λ x. Beats x j) (sym here)
       (⊎_elim (λ (e : j ≡ i). subst (λ y. Beats i y) (sym e) (itself i))
-      (λ other. absurd (best_none wins passes i was j (below_suc j i below other) yes_j))
+      (λ other. absurd (best_none wins passes i was j (omega arith) yes_j))
       (cases_eq j i))
   step i at j (Some h) was is before below yes_j =
       ⊎_elim
@@ -92,12 +95,12 @@ module _ (ge : ℕ → ℕ → Bool) (g : ℕ → ℕ) (total : (i j : ℕ) → 
       let new = sym (ap (λ t. cond t (Some i) (Some h)) won) ∙ is in
       let here : at ≡ i = cc in
       subst (λ x. Beats x j) (sym here)
-      (⊎_elim (λ (e : j ≡ i). subst (λ y. Beats i y) (sym e) (itself i)) (λ other. winner i h j won (before h was (below_suc j i below other))) (cases_eq j i)))
+      (⊎_elim (λ (e : j ≡ i). subst (λ y. Beats i y) (sym e) (itself i)) (λ other. winner i h j won (before h was (omega arith))) (cases_eq j i)))
       (λ (lost : wins i h ≡ false).
       let old = sym (ap (λ t. cond t (Some i) (Some h)) lost) ∙ is in
       let here : at ≡ h = cc in
       subst (λ x. Beats x j) (sym here)
-      (⊎_elim (λ (e : j ≡ i). subst (λ y. Beats h y) (sym e) (loser i h lost)) (λ other. before h was (below_suc j i below other)) (cases_eq j i)))
+      (⊎_elim (λ (e : j ≡ i). subst (λ y. Beats h y) (sym e) (loser i h lost)) (λ other. before h was (omega arith)) (cases_eq j i)))
       (cases_Bool (wins i h))
 
   pub best_beats : (n at : ℕ) → best wins n passes ≡ Some at → (j : ℕ) → j < n → passes j ≡ true → Beats at j
@@ -109,5 +112,5 @@ module _ (ge : ℕ → ℕ → Bool) (g : ℕ → ℕ) (total : (i j : ℕ) → 
       (λ h was below'. best_beats i h was j below' yes_j) below yes_j)
       (λ (no_i : passes i ≡ false).
       best_beats i at (sym (ap (λ t. cond t (prefer wins i (best wins i passes)) (best wins i passes)) no_i) ∙ is) j
-      (below_suc j i below (λ here. true≢false (sym yes_j ∙ ap passes here ∙ no_i))) yes_j)
+      (let other : j ≡ i → ⊥ = λ here. true≢false (sym yes_j ∙ ap passes here ∙ no_i) in omega arith) yes_j)
       (cases_Bool (passes i))

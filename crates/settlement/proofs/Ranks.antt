@@ -45,7 +45,7 @@ module _ (f g : Line → Bool) (more : (l : Line) → f l ≡ true → g l ≡ t
 
   pub number_rises : (os : List (Option Line)) (at : ℕ) (l : Line) → get_or os at None ≡ Some l → f l ≡ false → g l ≡ true → number_of f os < number_of g os
   unfolding number_of
-  number_rises [] at l is no_f yes_g = let z : ◌≡◌ {A = ℕ} 0 1 = cc in absurd (omega arith)
+  number_rises [] at l is no_f yes_g = absurd cc
   number_rises (o ∷ os) zero l is no_f yes_g =
       omega (arith, number_no_less os, ap (tested f) is, ap (tested g) is, ap {B = ℕ} (λ t. cond t 1 0) no_f, ap {B = ℕ} (λ t. cond t 1 0) yes_g)
   number_rises (o ∷ os) (suc at) l is no_f yes_g = omega (arith, number_rises os at l is no_f yes_g, tested_more o)

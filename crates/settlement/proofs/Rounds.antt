@@ -1,14 +1,13 @@
 -- Rounds of picks, one after another. Assumes nothing.
-use Rattle.std.proofs.Common.{◌≡◌, ℕ, zero, suc, ◌+◌, Bool, true, false, cond, not, ◌&&◌, ◌||◌, eqb, List, length, get_or, Some, None, Option, sym, refl, ap, ◌∙◌, ⊎_elim, add-one, arith}
+use Rattle.std.proofs.Common.{◌≡◌, ℕ, zero, suc, ◌+◌, ◌-◌, ◌≤◌, Bool, true, false, cond, eqb, List, length, get_or, None, Option, sym, refl, ap, ◌∙◌, ⊎_elim, add-one, arith}
 use Rattle.rulings.specs.Ranking.{Ranking}
 use Rattle.charts.specs.declared.chart.Line.{Line}
 use Rattle.charts.specs.declared.chart.Sign.{Sign}
 use Rattle.std.proofs.lemmas.Bool.{cases_Bool}
 use Rattle.charts.specs.Chains.{Leads}
-use Rattle.charts.specs.Reaching.{between_accounts}
-use Rattle.settlement.specs.Picking.{overridden, may_pass, eligible, better, prefer, best, repicked, rounds, settled}
+use Rattle.settlement.specs.Picking.{eligible, better, prefer, best, repicked, rounds, settled}
 use Rattle.settlement.specs.Settled.{Picks}
-use Rattle.settlement.proofs.Eligibility.{eligible_word}
+use Rattle.settlement.proofs.Eligibility.{eligible_word, eligible_local}
 
 -- one place more in the choice of the best
 pub best_more : (wins : ℕ → ℕ → Bool) (i : ℕ) (passes : ℕ → Bool) (owns : Bool) (held next : Option ℕ) →
@@ -27,23 +26,29 @@ best_same wins (suc i) passes passes' same =
     ∙ ap (λ h. cond (passes' i) (prefer wins i h) h) (best_same wins i passes passes' same)
 
 module _ (lines : List (Option Line)) (signs : ℕ → Sign) (owner : ℕ) (R : Ranking) (p : ℕ) where
-  eligible_same : (picks picks' : Picks) → ((a : ℕ) → picks a ≡ picks' a) → (a : ℕ) (o : Option Line) → eligible lines signs owner picks a o ≡ eligible lines signs owner picks' a o
-  eligible_same picks picks' same a None = refl
-  eligible_same picks picks' same a (Some l) =
-      ap (λ m. between_accounts l && (eqb l.to a && (not (overridden lines l) && (eqb l.from owner || may_pass signs m)))) (same l.from)
-
   pub repicked_same : (picks picks' : Picks) → ((a : ℕ) → picks a ≡ picks' a) → (a : ℕ) → repicked lines signs owner R p picks a ≡ repicked lines signs owner R p picks' a
   repicked_same picks picks' same a =
       ap (λ o. cond (eqb a owner) None o)
-      (best_same (better lines signs R p) (length lines) (λ at. eligible lines signs owner picks a (get_or lines at None)) (λ at. eligible lines signs owner picks' a (get_or lines at None)) (λ at. eligible_same picks picks' same a (get_or lines at None)))
+      (best_same (better lines signs R p) (length lines) (λ at. eligible lines signs owner picks a (get_or lines at None)) (λ at. eligible lines signs owner picks' a (get_or lines at None)) (λ at. eligible_local lines signs owner picks picks' a (get_or lines at None) (λ l is accounts to. same l.from)))
+
+  -- one round more
+  pub round_more : (picks next : Picks) (n : ℕ) → ((a : ℕ) → picks a ≡ rounds lines signs owner R p n a) → ((a : ℕ) → next a ≡ repicked lines signs owner R p picks a) → (a : ℕ) → next a ≡ rounds lines signs owner R p (n + 1) a
+  round_more picks next n is follows a =
+      follows a ∙ repicked_same picks (rounds lines signs owner R p n) is a ∙ ap (λ k. rounds lines signs owner R p k a) (sym (add-one n))
 
   -- picks that a round does not change are not changed by more
-  pub rounds_stay : (picks : Picks) (n : ℕ) → ((a : ℕ) → picks a ≡ rounds lines signs owner R p n a) → ((a : ℕ) → repicked lines signs owner R p picks a ≡ picks a) → (more a : ℕ) → picks a ≡ rounds lines signs owner R p (more + n) a
+  rounds_stay : (picks : Picks) (n : ℕ) → ((a : ℕ) → picks a ≡ rounds lines signs owner R p n a) → ((a : ℕ) → repicked lines signs owner R p picks a ≡ picks a) → (more a : ℕ) → picks a ≡ rounds lines signs owner R p (more + n) a
   rounds_stay picks n is stays zero a = is a ∙ ap (λ k. rounds lines signs owner R p k a) (omega arith)
   rounds_stay picks n is stays (suc more) a =
       sym (stays a)
       ∙ repicked_same picks (rounds lines signs owner R p (more + n)) (rounds_stay picks n is stays more) a
       ∙ ap (λ k. rounds lines signs owner R p k a) (let e : suc (more + n) ≡ suc more + n = omega arith in e)
+
+  -- so they are the settled ones, where the next are the same
+  pub settled_from_same : (picks next : Picks) (n : ℕ) → ((a : ℕ) → picks a ≡ rounds lines signs owner R p n a) → ((a : ℕ) → next a ≡ repicked lines signs owner R p picks a) → ((a : ℕ) → next a ≡ picks a) → n ≤ length lines → (a : ℕ) → picks a ≡ settled lines signs owner R p a
+  settled_from_same picks next n is follows same within a =
+      rounds_stay picks n is (λ b. sym (follows b) ∙ same b) (suc (length lines) - n) a
+      ∙ ap (λ k. rounds lines signs owner R p k a) (let e : (suc (length lines) - n) + n ≡ suc (length lines) = omega arith in e)
 
 -- nothing is picked where nothing passes
 best_nobody : (wins : ℕ → ℕ → Bool) (n : ℕ) (passes : ℕ → Bool) → ((i : ℕ) → passes i ≡ false) → best wins n passes ≡ None

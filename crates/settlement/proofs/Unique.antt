@@ -62,7 +62,7 @@ module _ (lines : List (Option Line)) (signs : ℕ → Sign) (owner : ℕ) (R : 
       for_another a other = stays a ∙ ap (λ t. cond t None (best (better lines signs R p) (length lines) (passes a))) (ne_eqb a owner other)
 
       not_owner : (a at : ℕ) → picks a ≡ Some at → a ≡ owner → ⊥
-      not_owner a at is own = let none = sym for_owner ∙ ap picks (sym own) ∙ is in let z : ◌≡◌ {A = ℕ} 0 1 = cc in omega arith
+      not_owner a at is own = let none = sym for_owner ∙ ap picks (sym own) ∙ is in cc
 
       best_is : (a at : ℕ) → picks a ≡ Some at → best (better lines signs R p) (length lines) (passes a) ≡ Some at
       best_is a at is = sym (for_another a (not_owner a at is)) ∙ is
@@ -103,11 +103,11 @@ module _ (lines : List (Option Line)) (signs : ℕ → Sign) (owner : ℕ) (R : 
       agree : (one other : Picks) → Settled lines signs owner R p one → Settled lines signs owner R p other → (a : ℕ) → ((u : ℕ) → rank lines no_circle u < rank lines no_circle a → one u ≡ other u) → (x y : Option ℕ) → one a ≡ x → other a ≡ y → x ≡ y
       agree one other s t a below None None is is' = refl
       agree one other s t a below (Some i) None is is' =
-          ⊎_elim (λ (own : a ≡ owner). let none = sym s.owner_none ∙ ap one (sym own) ∙ is in let z : ◌≡◌ {A = ℕ} 0 1 = cc in absurd (omega arith))
+          ⊎_elim (λ (own : a ≡ owner). let none = sym s.owner_none ∙ ap one (sym own) ∙ is in absurd cc)
           (λ not_own. absurd (t.none_left_out a not_own is' i (transfer one other a i below (s.eligible a i is))))
           (cases_eq a owner)
       agree one other s t a below None (Some j) is is' =
-          ⊎_elim (λ (own : a ≡ owner). let none = sym t.owner_none ∙ ap other (sym own) ∙ is' in let z : ◌≡◌ {A = ℕ} 0 1 = cc in absurd (omega arith))
+          ⊎_elim (λ (own : a ≡ owner). let none = sym t.owner_none ∙ ap other (sym own) ∙ is' in absurd cc)
           (λ not_own. absurd (s.none_left_out a not_own is j (transfer other one a j (λ u lower. sym (below u lower)) (t.eligible a j is'))))
           (cases_eq a owner)
       agree one other s t a below (Some i) (Some j) is is' =

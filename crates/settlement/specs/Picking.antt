@@ -1,5 +1,5 @@
 -- The settled list, computed. Assumes nothing.
-use Rattle.std.specs.Prelude.{◌≡◌, ℕ, zero, suc, Bool, true, false, cond, not, ◌&&◌, ◌||◌, List, length, Some, None, Decides, Option, ◌==◌, nat_lt, slice_index_or}
+use Rattle.std.specs.Prelude.{◌≡◌, ℕ, zero, suc, Bool, true, false, if◌then◌else◌, not, ◌&&◌, ◌||◌, List, length, Some, None, Option, IsTrue, ◌==◌, ◌↔◌, nat_lt, slice_index_or}
 use Rattle.rulings.specs.Ranking.{Ranking}
 use Rattle.charts.specs.declared.above.Sources.{Sources}
 use Rattle.charts.specs.declared.chart.Line.{Line}
@@ -12,10 +12,14 @@ use Rattle.settlement.specs.Settled.{Picks, claim_at}
 abbrev pub overridden : List (Option Line) → Line → Bool
 overridden lines l = any_line (λ k. (k.to == l.to) && above lines k.from l.from) lines
 
+-- the flag at the place of a line between accounts says whether the line is overridden
+abbrev pub FlagsOverridden : List (Option Line) → List Bool → Type 0
+FlagsOverridden lines flags = (at : ℕ) (l : Line) → slice_index_or lines at None ≡ Some l → between_accounts l ≡ true → slice_index_or flags at false ≡ overridden lines l
+
 -- the answer to whether some account has a line to where this one leads and is above where it comes from
 abbrev pub Flagged : Sources → Sources → Option Line → Bool → Type 0
 Flagged above direct None r = Unit {0}
-Flagged above direct (Some l) r = Decides r ((w : ℕ) × (over direct w l.to ≡ true) × (over above w l.from ≡ true))
+Flagged above direct (Some l) r = IsTrue r ↔ ((w : ℕ) × (over direct w l.to ≡ true) × (over above w l.from ≡ true))
 
 abbrev pub may_pass : (ℕ → Sign) → Option ℕ → Bool
 may_pass signs None = false
@@ -31,7 +35,7 @@ eligible lines signs owner picks a (Some l) =
 abbrev pub Candidate : List (Option Line) → (ℕ → Sign) → ℕ → Picks → Bool → Option Line → Option ℕ → Type 0
 Candidate lines signs owner picks flag None r = r ≡ None
 Candidate lines signs owner picks flag (Some l) r =
-    r ≡ cond (between_accounts l && (not (l.to == owner) && (not flag && (l.from == owner || may_pass signs (picks l.from))))) (Some l.to) None
+    r ≡ (if between_accounts l && (not (l.to == owner) && (not flag && (l.from == owner || may_pass signs (picks l.from)))) then Some l.to else None)
 
 -- the first place is to be picked rather than the second
 abbrev pub better : List (Option Line) → (ℕ → Sign) → Ranking → ℕ → ℕ → ℕ → Bool
@@ -41,17 +45,17 @@ better lines signs R p i h =
 
 abbrev pub prefer : (ℕ → ℕ → Bool) → ℕ → Option ℕ → Option ℕ
 prefer wins i None = Some i
-prefer wins i (Some h) = cond (wins i h) (Some i) (Some h)
+prefer wins i (Some h) = if wins i h then Some i else Some h
 
 -- the best of the first n places that pass
 abbrev pub best : (ℕ → ℕ → Bool) → ℕ → (ℕ → Bool) → Option ℕ
 best wins zero passes = None
-best wins (suc i) passes = cond (passes i) (prefer wins i (best wins i passes)) (best wins i passes)
+best wins (suc i) passes = if passes i then prefer wins i (best wins i passes) else best wins i passes
 
 module _ (lines : List (Option Line)) (signs : ℕ → Sign) (owner : ℕ) (R : Ranking) (p : ℕ) where
   -- the picks that follow from what others may pass on
   abbrev pub repicked : Picks → Picks
-  repicked picks a = cond (a == owner) None (best (better lines signs R p) (length lines) (λ at. eligible lines signs owner picks a (slice_index_or lines at None)))
+  repicked picks a = if a == owner then None else best (better lines signs R p) (length lines) (λ at. eligible lines signs owner picks a (slice_index_or lines at None))
 
   -- the picks after n rounds
   abbrev pub rounds : ℕ → Picks

@@ -1,7 +1,7 @@
 // Settlement: which line of a signed chart decides for each account, under a ruling.
 #![tactic(auto)]
 
-mod candidates;
+mod cases;
 mod overrides;
 pub mod picks;
 mod settling;
