@@ -1,6 +1,7 @@
 -- How many numbers pass, one more at a time. Assumes nothing.
 use Rattle.std.proofs.Common.{◌≡◌, ℕ, zero, suc, ◌+◌, ◌<◌, ◌≤◌, Bool, true, false, cond, not, ◌&&◌, ◌||◌, eqb, ltb, sym, refl, ap, ◌∙◌, ⊎_elim, arith, lit≤}
 use Rattle.std.proofs.lemmas.Bool.{cases_eq, cases_lt, eq-eqb, ne_eqb, lt-ltb, le-ltb, or_right}
+use Rattle.std.proofs.Math.Bool.{or-false}
 use Rattle.rights.specs.Lengths.{count_below}
 
 one_or_none : (t : Bool) → cond {A = ℕ} t 1 0 ≤ 1
@@ -10,10 +11,6 @@ one_or_none false = lit≤ tt
 one_of_both : (t : Bool) → cond {A = ℕ} t 1 0 + cond {A = ℕ} (not t) 1 0 ≡ 1
 one_of_both true = refl
 one_of_both false = refl
-
-or_false : (t : Bool) → (t || false) ≡ t
-or_false true = refl
-or_false false = refl
 
 pub count_none : (n : ℕ) (p : ℕ → Bool) → ((a : ℕ) → p a ≡ false) → 0 ≡ count_below n p
 unfolding count_below
@@ -57,7 +54,7 @@ count_put (suc n) b p q same =
     let same_one : cond {A = ℕ} (p n) 1 0 ≡ cond {A = ℕ} (p b) 1 0 = ap (λ a. cond {A = ℕ} (p a) 1 0) is in
     (let goal : count_below n q + cond {A = ℕ} (q n) 1 0 ≡ (count_below n p + cond {A = ℕ} (p n) 1 0) + cond {A = ℕ} (ltb b (suc n) && not (p b)) 1 0 = omega arith in goal))
     (λ (other : n ≡ b → ⊥).
-    let as_it_was : cond {A = ℕ} (q n) 1 0 ≡ cond {A = ℕ} (p n) 1 0 = ap (λ t. cond {A = ℕ} t 1 0) (same n (omega arith) ∙ ap (λ t. p n || t) (ne_eqb n b other) ∙ or_false (p n)) in
+    let as_it_was : cond {A = ℕ} (q n) 1 0 ≡ cond {A = ℕ} (p n) 1 0 = ap (λ t. cond {A = ℕ} t 1 0) (same n (omega arith) ∙ ap (λ t. p n || t) (ne_eqb n b other) ∙ or-false (p n)) in
     let still : cond {A = ℕ} (ltb b n && not (p b)) 1 0 ≡ cond {A = ℕ} (ltb b (suc n) && not (p b)) 1 0 = ap (λ t. cond {A = ℕ} (t && not (p b)) 1 0) (after_same b n other) in
     (let goal : count_below n q + cond {A = ℕ} (q n) 1 0 ≡ (count_below n p + cond {A = ℕ} (p n) 1 0) + cond {A = ℕ} (ltb b (suc n) && not (p b)) 1 0 = omega arith in goal))
     (cases_eq n b)

@@ -1,6 +1,6 @@
 -- What the gathered grants of a right decide. Assumes nothing.
-use Rattle.std.proofs.Common.{◌≡◌, ℕ, ◌≤◌, false, List, length, take, is_some, None, ap, arith}
-use Rattle.std.proofs.lemmas.List.{take_all, length-take}
+use Rattle.std.proofs.Common.{◌≡◌, ℕ, ◌≤◌, false, List, length, take, is_some, None, ap}
+use Rattle.std.proofs.lemmas.List.{take_all}
 use Rattle.std.proofs.lemmas.Bool.{eqb-false}
 use Rattle.table.specs.Used.{first}
 use Rattle.rulings.specs.Ranking.{Ranking}
@@ -9,11 +9,7 @@ use Rattle.settlement.specs.Picking.{settled}
 use Rattle.settlement.proofs.Rounds.{unnamed_none}
 use Rattle.model.specs.Delegation.{lines_of, signs_of}
 use Rattle.model.proofs.Marked.{leads_mark, first_none, none_there}
-use Rattle.rights.specs.declared.gathered.Gathered.{Gathered}
-use Rattle.rights.specs.Gathering.{gathered, names}
-
-pub gathered_few : (g : Gathered) → g.len ≤ 4096 → length (gathered g) ≤ 4096
-gathered_few g few = omega (arith, length-take g.len g.marks)
+use Rattle.rights.specs.Gathering.{names}
 
 module _ (marks : List Mark) (owner : ℕ) (R : Ranking) (p a : ℕ) where
   -- no mark is left out of the chart of so few

@@ -1,11 +1,14 @@
 -- A grant that no row refuses. Assumes nothing.
-use Rattle.std.proofs.Common.{◌≡◌, ℕ, ◌+◌, ◌<◌, true, List, [], ◌∷◌, ◌++◌, length, Some, None, count_by, sym, ap, ◌∙◌}
+use Rattle.std.proofs.Common.{◌≡◌, ℕ, ◌+◌, ◌<◌, cond, List, [], ◌∷◌, ◌++◌, length, Some, None, Ok, Err, count_by, sym, ap, ◌∙◌, arith}
 use Rattle.std.proofs.lemmas.Bool.{leb-false, lt-ltb}
+use Rattle.table.specs.declared.TableFault.{TableFault}
+use Rattle.table.specs.declared.TableFault.TheVariants.{Full}
 use Rattle.table.specs.Used.{used, room, roomy, replaced}
 use Rattle.terms.specs.declared.Kind.{Kind}
 use Rattle.rulings.specs.House.{house}
 use Rattle.rulings.specs.Ranking.{Ranking}
 use Rattle.model.specs.declared.records.DraftRecord.{DraftRecord}
+use Rattle.model.specs.declared.records.GrantKey.{GrantKey}
 use Rattle.model.specs.declared.records.GrantRecord.{GrantRecord}
 use Rattle.model.specs.Calls.Call.{granting}
 use Rattle.model.specs.Calls.Reply.{granted}
@@ -37,8 +40,14 @@ module _ (was : Register) (d r c a k : ℕ) (x : DraftRecord) (found : draft_of 
       let rows = none_holds (refusal_table house (contents was) (granting d r c a k)) (sym (none house)) in
       leb-false 65535 x.last (ap spent (sym found) ∙ rows.1.1.1.1.1.1.1.1.1.1.1.1.1.1.0)
 
-  pub cell_left : roomy was.grants ≡ true
-  cell_left = lt-ltb (length (used was.grants)) (room was.grants) (room_for_one was d x found fewer)
+  -- so the table of grants does not refuse it
+  pub never_full : {f : TableFault GrantKey} → Err f ≡ cond (roomy was.grants) (Ok (tt {0})) (Err Full) → ⊥
+  never_full refused =
+      let fits = lt-ltb (length (used was.grants)) (room was.grants) (room_for_one was d x found fewer) in
+      err_not_ok (refused ∙ ap (λ b. cond b (Ok (tt {0})) (Err Full)) fits)
+    where
+      err_not_ok : {f : TableFault GrantKey} → Err f ≡ Ok (tt {0}) → ⊥
+      err_not_ok e = let z : ◌≡◌ {A = ℕ} 0 1 = cc in omega arith
 
   pub grant_told : (R : Ranking) → granted (x.last + 1) ≡ reply R (contents was) (granting d r c a k)
   grant_told R = ap (λ o. granted (next_serial o)) (sym found) ∙ obeyed_reply R (contents was) (granting d r c a k) (sym (none R))

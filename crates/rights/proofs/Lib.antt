@@ -2,7 +2,6 @@ pub mod Asked
 pub mod Counts
 pub mod Decided
 pub mod Firsts
-pub mod Gathers
 pub mod Granting
 pub mod Longest
 pub mod Pages

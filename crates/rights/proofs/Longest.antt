@@ -19,7 +19,7 @@ use Rattle.rights.specs.Gathering.{names}
 use Rattle.rights.specs.Lengths.{count_below, named_accounts}
 use Rattle.rights.proofs.Counts.{count_one}
 use Rattle.rights.proofs.Decided.{unnamed_settled}
-use Rattle.rights.proofs.Pages.{account_short}
+use Rattle.text.proofs.Lengths.{three_digits}
 
 -- the deciding account, where there is one, is an account
 abbrev ByAccount : Answer → Type 0
@@ -27,7 +27,7 @@ ByAccount said = (g : ℕ) → said.1 ≡ Some g → g < 512
 
 line_short : (a g : ℕ) (word : List ℕ) → a < 512 → g < 512 → length word ≤ 11 → length (decimal a ++ (word ++ (decimal g ++ (10 ∷ [])))) ≤ 18
 line_short a g word account grantor short =
-    omega (arith, length-append (decimal a) (word ++ (decimal g ++ (10 ∷ []))), length-append word (decimal g ++ (10 ∷ [])), length-append (decimal g) (10 ∷ []), account_short a account, account_short g grantor)
+    omega (arith, length-append (decimal a) (word ++ (decimal g ++ (10 ∷ []))), length-append word (decimal g ++ (10 ∷ [])), length-append (decimal g) (10 ∷ []), three_digits a (omega arith), three_digits g (omega arith))
 
 entry_short : (a : ℕ) → a < 512 → (said : Answer) → ByAccount said → length (entry a said) ≤ 18
 entry_short a account (Permitted, Some g) by = line_short a g (codes " permitted ") account (by g refl) (lit≤ tt)

@@ -1,13 +1,7 @@
 -- Sheets, line by line. Assumes nothing.
-use Rattle.std.proofs.Common.{◌≡◌, ℕ, zero, suc, ◌+◌, ◌<◌, ◌≤◌, List, [], ◌++◌, length, decimal, refl, ap, ◌∙◌, add-one, arith, lit≤}
-use Rattle.std.proofs.lemmas.Fmt.{length-decimal-le}
+use Rattle.std.proofs.Common.{◌≡◌, ℕ, zero, suc, ◌+◌, List, [], ◌++◌, refl, ap, ◌∙◌, add-one}
+use Rattle.std.proofs.lemmas.List.{length-append}
 use Rattle.model.specs.Sheets.{joined_below}
-
-pub account_short : (n : ℕ) → n < 512 → length (decimal n) ≤ 3
-account_short n small = length-decimal-le 3 n (lit≤ tt) (omega arith) (omega arith)
-
-pub pair_short : (n : ℕ) → n < 65536 → length (decimal n) ≤ 5
-pair_short n small = length-decimal-le 5 n (lit≤ tt) (omega arith) (omega arith)
 
 pub joined_none : (f : ℕ → List ℕ) → joined_below 0 f ≡ []
 unfolding joined_below
@@ -16,6 +10,8 @@ joined_none f = refl
 pub joined_more : (n : ℕ) (f : ℕ → List ℕ) → joined_below (n + 1) f ≡ joined_below n f ++ f n
 unfolding joined_below
 joined_more n f = ap (λ k. joined_below k f) (add-one n)
+
+pub ruleset joining = (joined_none, joined_more, length-append)
 
 pub joined_same : (n : ℕ) (f h : ℕ → List ℕ) → ((a : ℕ) → f a ≡ h a) → joined_below n f ≡ joined_below n h
 unfolding joined_below

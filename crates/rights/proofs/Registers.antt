@@ -1,7 +1,7 @@
 -- What holds of every register, since it holds after every history. Assumes nothing.
-use Rattle.std.proofs.Common.{◌≡◌, ℕ, ◌<◌, ◌≤◌, length, Some, count_by, sym, subst}
-use mathlib.Core.Logic.{∥∥₁_elim, ∥∥₁_map}
-use native.Mathlib.Bridge.{le_prop}
+use Rattle.std.proofs.Common.{◌≡◌, ℕ, ◌<◌, ◌≤◌, length, Some, count_by, sym, subst, arith}
+use Rattle.std.proofs.Math.Logic.{∥∥₁_elim, ∥∥₁_map}
+use Rattle.std.proofs.Math.Bridge.{le_prop}
 use Rattle.table.specs.declared.Table.{Table}
 use Rattle.table.specs.Used.{used, room}
 use Rattle.rulings.specs.Ranking.{Ranking, Lawful}
@@ -23,11 +23,21 @@ abbrev pub Left : Table DraftRecord → Table GrantRecord → Type 0
 Left drafts grants = ∥ Reached (state (room drafts) (room grants) (used drafts) (used grants)) ∥₁
 
 module _ (drafts : Table DraftRecord) (grants : Table GrantRecord) (left : Left drafts grants) where
-  pub left_fits : reserved (used drafts) ≤ room grants
+  left_fits : reserved (used drafts) ≤ room grants
   left_fits = ∥∥₁_elim left le_prop (λ by. (reached_orderly (state (room drafts) (room grants) (used drafts) (used grants)) by).fits)
 
-  pub left_once : Once (used drafts)
+  left_once : Once (used drafts)
   left_once d = ∥∥₁_elim left le_prop (λ by. (reached_orderly (state (room drafts) (room grants) (used drafts) (used grants)) by).once d)
+
+-- what the fields of a register say
+abbrev pub InOrder : Table DraftRecord → Table GrantRecord → Type 0
+InOrder drafts grants = record {
+  places_few : room drafts ≤ 256;
+  cells_few : room grants ≤ 4096;
+  reservations_fit : reserved (used drafts) ≤ room grants;
+  drafts_once : Once (used drafts);
+  reached : Left drafts grants;
+}
 
 module _ (was : Register) where
   -- what a call leaves is reached too
@@ -42,3 +52,13 @@ module _ (was : Register) where
   pub sound_throughout : SoundThroughout (contents was)
   sound_throughout d r x found =
       sound_known x.owner (of_right d r (used was.grants)) (∥∥₁_map was.reached (λ reached. reached_sound (contents was) reached d r x found))
+
+  -- and so a call that keeps how many places and cells there are leaves a register
+  pub left_in_order : (drafts : Table DraftRecord) (grants : Table GrantRecord) → room drafts ≡ room was.drafts → room grants ≡ room was.grants → Left drafts grants → InOrder drafts grants
+  left_in_order drafts grants places cells left = record {
+    places_few = omega (arith, places, was.places_few);
+    cells_few = omega (arith, cells, was.cells_few);
+    reservations_fit = left_fits drafts grants left;
+    drafts_once = left_once drafts grants left;
+    reached = left;
+  }

@@ -1,5 +1,5 @@
 -- The numbers and layers of the register's faults. Assumes nothing.
-use Rattle.std.specs.Prelude.{◌≡◌, ℕ, cond, ◌||◌, Some, None, Ok, Err, Option, Result, ◌==◌}
+use Rattle.std.specs.Prelude.{◌≡◌, ℕ, if◌then◌else◌, ◌||◌, Some, None, Ok, Err, IfErr, Option, Result, ◌==◌}
 use Rattle.table.specs.declared.TableFault.TheVariants.{Absent, Present, Full}
 use Rattle.rights.specs.declared.faults.Layer.{Layer}
 use Rattle.rights.specs.declared.faults.Layer.TheVariants.{Table, Register}
@@ -32,7 +32,7 @@ number BufferTooShort = 17
 
 -- the layer that finds what a row of the table refuses
 abbrev pub layer_of_row : ℕ → Layer
-layer_of_row n = cond (n == 6 || (n == 7 || (n == 8 || (n == 12 || n == 16)))) Table Register
+layer_of_row n = if n == 6 || (n == 7 || (n == 8 || (n == 12 || n == 16))) then Table else Register
 
 -- the number by which a call's result refuses, if it does
 abbrev pub refused_by : {T : Type 0} → Result T RegisterFault → Option ℕ
@@ -67,10 +67,8 @@ KeyTold d Key BufferTooShort = Unit {0}
 
 -- of a call that names no grant: no fault speaks of one
 abbrev pub TellsDraft : {T : Type 0} → ℕ → Result T RegisterFault → Type 0
-TellsDraft d (Ok x) = Unit {0}
-TellsDraft d (Err f) = KeyTold d (λ k. ⊥) f
+TellsDraft d result = IfErr result (KeyTold d (λ k. ⊥))
 
 -- of a call that names one
 abbrev pub TellsGrant : {T : Type 0} → GrantKey → Result T RegisterFault → Type 0
-TellsGrant key (Ok x) = Unit {0}
-TellsGrant key (Err f) = KeyTold key.draft (λ k. k ≡ key) f
+TellsGrant key result = IfErr result (KeyTold key.draft (λ k. k ≡ key))

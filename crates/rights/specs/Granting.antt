@@ -1,5 +1,5 @@
 -- The parts of a grant. Assumes nothing.
-use Rattle.std.specs.Prelude.{◌≡◌, ℕ, Bool, ◌||◌, List, [], ◌∷◌, is_some, Some, Ok, Err, count_by, Result, ◌==◌}
+use Rattle.std.specs.Prelude.{◌≡◌, ℕ, Bool, ◌||◌, List, [], ◌∷◌, is_some, Some, IfOk, count_by, Result, ◌==◌}
 use Rattle.table.specs.Used.{first}
 use Rattle.terms.specs.declared.Kind.{Kind}
 use Rattle.charts.specs.Reaching.{above}
@@ -10,14 +10,12 @@ use Rattle.model.specs.Grants.{of_right, is_on_draft}
 use Rattle.model.specs.Keys.{by_grant}
 use Rattle.model.specs.Meaning.{kind_of}
 use Rattle.model.specs.Refusals.{not_entitled, full, spent}
-use Rattle.model.specs.State.{State}
+use Rattle.model.specs.State.{State, draft_of}
 use Rattle.rights.specs.declared.faults.RegisterFault.{RegisterFault}
-use Rattle.rights.specs.Finding.{FoundDraft}
 
 -- the record of the draft and the kind told
 abbrev pub Found : State → ℕ → ℕ → Result (DraftRecord × Kind) RegisterFault → Type 0
-Found s d k (Ok (x, kind)) = FoundDraft s d (Ok x) × (kind ≡ kind_of k)
-Found s d k (Err f) = Unit {0}
+Found s d k result = IfOk result (λ found. (draft_of d s ≡ Some found.0) × (found.1 ≡ kind_of k))
 
 -- the rows of the refusal table that look at the grants that stand, where the draft's record is x
 abbrev pub rows_of_grants : State → GrantKey → DraftRecord → List (ℕ × Bool)

@@ -30,12 +30,10 @@ pub(crate) fn decide(marks: &[Mark], pick: Option<u16>) -> (Decision, Option<u16
     let Some(at) = pick else {
         return (Decision::Undecided, None);
     };
-    let at = usize::from(at);
     // No place past the end is ever picked.
-    if at >= marks.len() {
+    let Some(mark) = marks.get(usize::from(at)) else {
         return (Decision::Denied, Some(0));
-    }
-    let mark = marks[at];
+    };
     decided_by(mark.kind, mark.from)
 }
 
@@ -44,7 +42,6 @@ fn decided_by(kind: Kind, grantor: u16) -> (Decision, Option<u16>)
 {
     match kind {
         Kind::Denying => (Decision::Denied, Some(grantor)),
-        Kind::Plain => (Decision::Permitted, Some(grantor)),
-        Kind::Delegatable => (Decision::Permitted, Some(grantor)),
+        Kind::Plain | Kind::Delegatable => (Decision::Permitted, Some(grantor)),
     }
 }

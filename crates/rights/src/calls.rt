@@ -1,6 +1,5 @@
 // Calls as values, and what an obeyed one tells: all calls but sheets and lengths.
-ghost use Rattle.std.specs.Prelude.{◌≡◌, false, is_ok};
-ghost use Rattle.rulings.specs.Ranking.{Ranking};
+ghost use Rattle.std.specs.Prelude.{◌≡◌, OnErr};
 ghost use Rattle.model.specs.Meaning.{reply, next};
 ghost use Rattle.rights.specs.Contents.{contents};
 ghost use Rattle.rights.specs.Faults.{replied};
@@ -11,7 +10,8 @@ use crate::register::Register;
 use model::Decision;
 use rulings::Ruling;
 
-#[derive(Clone, Copy)]
+// A kind comes as a number, since one that is no kind is a call too, and refused by a row of its own.
+#[derive(Clone, Copy, Debug, PartialEq, Eq)]
 pub enum Call {
     Open {
         draft: u16,
@@ -49,7 +49,7 @@ pub enum Call {
 }
 
 // What an obeyed call tells.
-#[derive(Clone, Copy)]
+#[derive(Clone, Copy, Debug, PartialEq, Eq)]
 pub enum Outcome {
     Done,
     Closed(u16),
@@ -63,7 +63,7 @@ impl Register<'_> {
     pub fn obey<R: Ruling>(&mut self, ruling: &R, call: Call) -> Result<Outcome, RegisterFault>
         ensures told { replied outcome result ≡ reply (R.ranking ruling.now) (contents self.old) (call_of call) }
         ensures left { contents self.new ≡ next (R.ranking ruling.now) (contents self.old) (call_of call) }
-        ensures same { is_ok result ≡ false → self.new ≡ self.old }
+        ensures same { OnErr result (self.new ≡ self.old) }
         ensures about { TellsOf call result }
     {
         match call {
@@ -72,40 +72,41 @@ impl Register<'_> {
                 owner,
                 policy,
                 cells,
-            } => {
-                self.open(ruling, draft, owner, policy, cells)?;
-                Ok(Outcome::Done)
-            }
-            Call::Close { draft, caller } => Ok(Outcome::Closed(self.close(draft, caller)?)),
+            } => self
+                .open(ruling, draft, owner, policy, cells)
+                .map(|()| Outcome::Done),
+            Call::Close { draft, caller } => self.close(draft, caller).map(Outcome::Closed),
             Call::Grant {
                 draft,
                 right,
                 caller,
                 account,
                 kind,
-            } => Ok(Outcome::Granted(self.grant(draft, right, caller, account, kind)?)),
+            } => self
+                .grant(draft, right, caller, account, kind)
+                .map(Outcome::Granted),
             Call::Withdraw {
                 draft,
                 right,
                 caller,
                 account,
-            } => Ok(Outcome::Withdrawn(self.withdraw(draft, right, caller, account)?)),
+            } => self
+                .withdraw(draft, right, caller, account)
+                .map(Outcome::Withdrawn),
             Call::Policy {
                 draft,
                 caller,
                 policy,
-            } => {
-                self.policy(ruling, draft, caller, policy)?;
-                Ok(Outcome::Done)
-            }
+            } => self
+                .policy(ruling, draft, caller, policy)
+                .map(|()| Outcome::Done),
             Call::Request {
                 draft,
                 right,
                 account,
-            } => {
-                let (decision, decider) = self.request(ruling, draft, right, account)?;
-                Ok(Outcome::Decided(decision, decider))
-            }
+            } => self
+                .request(ruling, draft, right, account)
+                .map(|(decision, decider)| Outcome::Decided(decision, decider)),
         }
     }
 }

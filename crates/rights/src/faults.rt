@@ -1,18 +1,19 @@
 // Why the register refuses. Each fault has its number in the refusal table and the layer that finds it.
 ghost use Rattle.std.specs.Prelude.{◌≡◌};
-ghost use Rattle.rights.specs.declared.faults.RegisterFault.TheVariants.{Draft, Grant};
+ghost use Rattle.rights.specs.declared.faults.RegisterFault.TheVariants.{Draft, Grant, KindTooLarge};
 ghost use Rattle.rights.specs.Faults.{number, layer_of_row};
 
 use model::records::GrantKey;
 use table::TableFault;
+use terms::UnknownKind;
 
-#[derive(Clone, Copy)]
+#[derive(Clone, Copy, Debug, PartialEq, Eq)]
 pub enum Layer {
     Table,
     Register,
 }
 
-#[derive(Clone, Copy)]
+#[derive(Clone, Copy, Debug, PartialEq, Eq)]
 pub enum RegisterFault {
     AccountTooLarge,
     RightTooLarge,
@@ -33,16 +34,24 @@ pub enum RegisterFault {
 impl From<TableFault<u16>> for RegisterFault {
     ghost from_gives = { λ f r. r ≡ Draft f };
 
-    fn from(fault: TableFault<u16>) -> RegisterFault {
-        RegisterFault::Draft(fault)
+    fn from(fault: TableFault<u16>) -> Self {
+        Self::Draft(fault)
     }
 }
 
 impl From<TableFault<GrantKey>> for RegisterFault {
     ghost from_gives = { λ f r. r ≡ Grant f };
 
-    fn from(fault: TableFault<GrantKey>) -> RegisterFault {
-        RegisterFault::Grant(fault)
+    fn from(fault: TableFault<GrantKey>) -> Self {
+        Self::Grant(fault)
+    }
+}
+
+impl From<UnknownKind> for RegisterFault {
+    ghost from_gives = { λ f r. r ≡ KindTooLarge };
+
+    fn from(_fault: UnknownKind) -> Self {
+        Self::KindTooLarge
     }
 }
 
@@ -64,8 +73,7 @@ impl RegisterFault {
             RegisterFault::NotEntitled => 11,
             RegisterFault::Grant(TableFault::Present(_)) => 12,
             RegisterFault::Circle => 13,
-            RegisterFault::DraftFull => 14,
-            RegisterFault::Grant(TableFault::Full) => 14,
+            RegisterFault::DraftFull | RegisterFault::Grant(TableFault::Full) => 14,
             RegisterFault::SerialsSpent => 15,
             RegisterFault::Grant(TableFault::Absent(_)) => 16,
             RegisterFault::BufferTooShort => 17,
@@ -76,9 +84,8 @@ impl RegisterFault {
         ensures { result ≡ layer_of_row (number self) }
     {
         match self {
-            RegisterFault::Draft(_) => Layer::Table,
             RegisterFault::Grant(TableFault::Full) => Layer::Register,
-            RegisterFault::Grant(_) => Layer::Table,
+            RegisterFault::Draft(_) | RegisterFault::Grant(_) => Layer::Table,
             _ => Layer::Register,
         }
     }

@@ -4,7 +4,6 @@
 mod answering;
 pub mod calls;
 pub mod faults;
-mod gathered;
 mod marks;
 mod page;
 pub mod register;

@@ -15,6 +15,7 @@ use table::Table;
 mod build;
 mod checks;
 mod close;
+mod gathered;
 mod grant;
 mod length;
 mod open;

@@ -1,4 +1,4 @@
-ghost use Rattle.std.specs.Prelude.{◌≡◌, true, false, is_ok};
+ghost use Rattle.std.specs.Prelude.{◌≡◌, OnErr};
 ghost use Rattle.rulings.specs.Ranking.{Ranking};
 ghost use Rattle.model.specs.Calls.Call.{granting};
 ghost use Rattle.model.specs.Calls.Reply.{granted};
@@ -11,10 +11,9 @@ ghost use Rattle.rights.specs.Faults.{refused_by, replied, TellsGrant};
 ghost use Rattle.rights.specs.Granting.{Found, rows_of_grants};
 
 use crate::faults::RegisterFault;
-use crate::gathered::gather;
 use crate::marks::{closes_circle, is_entitled};
 use crate::register::Register;
-use crate::register::checks::{account_in_range, kind_in_range, right_in_range};
+use crate::register::checks::{key_in_range, refuse_if};
 use model::{DraftRecord, GrantKey, GrantRecord};
 use table::TableFault;
 use terms::Kind;
@@ -33,7 +32,7 @@ impl Register<'_> {
         ensures told { (R : Ranking) → replied granted result ≡ reply R (contents self.old) (granting draft right caller account kind) }
         ensures left { (R : Ranking) → contents self.new ≡ next R (contents self.old) (granting draft right caller account kind) }
         ensures consistent { RefusedToStayConsistent (contents self.old) draft right caller account kind (replied granted result) }
-        ensures same { is_ok result ≡ false → self.new ≡ self.old }
+        ensures same { OnErr result (self.new ≡ self.old) }
         ensures about { TellsGrant (key_of draft right caller account) result }
     {
         let key = GrantKey {
@@ -52,17 +51,13 @@ impl Register<'_> {
             kind,
             serial,
         };
+        let counted = DraftRecord {
+            last: serial,
+            ..found
+        };
         // Neither table can refuse here: there is a cell for the grant, and the draft is open.
-        let added = self.grants.add(granted);
-        let counted = self.drafts.replace(
-            draft,
-            DraftRecord {
-                last: serial,
-                ..found
-            },
-        );
-        added?;
-        counted?;
+        self.grants.add(granted)?;
+        self.drafts.replace(draft, counted)?;
         Ok(serial)
     }
 
@@ -72,10 +67,8 @@ impl Register<'_> {
         ensures found { Found (contents self.now) key.draft kind result }
         ensures about { TellsGrant key result }
     {
-        account_in_range(key.grantor)?;
-        account_in_range(key.account)?;
-        right_in_range(key.right)?;
-        let kind = kind_in_range(kind)?;
+        key_in_range(key)?;
+        let kind = Kind::try_from(kind)?;
         let Some(found) = self.drafts.find(key.draft) else {
             return Err(RegisterFault::from(TableFault::Absent(key.draft)));
         };
@@ -88,21 +81,15 @@ impl Register<'_> {
         ensures refused { refused_by result ≡ topmost (rows_of_grants (contents self.now) key found.now) }
         ensures about { TellsGrant key result }
     {
-        let gathered = gather(self.grants.used(), key.draft, key.right);
+        let gathered = self.gather(key.draft, key.right);
         let marks = gathered.marks();
-        if !is_entitled(marks, found.owner, key.grantor) {
-            return Err(RegisterFault::NotEntitled);
-        }
+        let entitled = is_entitled(marks, found.owner, key.grantor);
+        refuse_if(!entitled, RegisterFault::NotEntitled)?;
         self.grants.refuse_present(key)?;
-        if closes_circle(marks, key.grantor, key.account) {
-            return Err(RegisterFault::Circle);
-        }
-        if gathered.on_draft >= usize::from(found.cells) {
-            return Err(RegisterFault::DraftFull);
-        }
-        if found.last == u16::MAX {
-            return Err(RegisterFault::SerialsSpent);
-        }
-        Ok(())
+        let circle = closes_circle(marks, key.grantor, key.account);
+        refuse_if(circle, RegisterFault::Circle)?;
+        let full = gathered.on_draft >= usize::from(found.cells);
+        refuse_if(full, RegisterFault::DraftFull)?;
+        refuse_if(found.last == u16::MAX, RegisterFault::SerialsSpent)
     }
 }

@@ -5,7 +5,6 @@ ghost use Rattle.rights.specs.Faults.{refused_by, TellsDraft};
 ghost use Rattle.rights.specs.Lengths.{LongEnough, ShortEnough};
 
 use crate::faults::RegisterFault;
-use crate::gathered::gather;
 use crate::marks::count_named;
 use crate::register::Register;
 use crate::register::checks::right_in_range;
@@ -17,6 +16,7 @@ const LINE: usize = 18;
 impl Register<'_> {
     // A length that no sheet of the right on the draft exceeds, whatever the ruling: a longest line for each account
     // that a grant names, and one for the owner. Costs a pass over the drafts and one over the grants.
+    #[tactic(auto, using(crate::proofs::Counts::count_le))]
     pub fn length(&self, draft: u16, right: u8) -> Result<usize, RegisterFault>
         ensures refused { refused_by result ≡ topmost (length_table (contents self.now) draft right) }
         ensures enough { LongEnough (contents self.now) draft right result }
@@ -27,7 +27,7 @@ impl Register<'_> {
         let Some(_) = self.drafts.find(draft) else {
             return Err(RegisterFault::from(TableFault::Absent(draft)));
         };
-        let gathered = gather(self.grants.used(), draft, right);
+        let gathered = self.gather(draft, right);
         Ok(LINE * count_named(gathered.marks()) + LINE)
     }
 }

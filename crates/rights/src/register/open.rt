@@ -1,5 +1,4 @@
-ghost use Rattle.std.specs.Prelude.{◌≡◌, ◌^◌, ◌<◌, ◌≤◌, true, false, is_ok};
-ghost use Rattle.rulings.specs.Ranking.{Ranking};
+ghost use Rattle.std.specs.Prelude.{◌≡◌, ◌≤◌, OnErr};
 ghost use Rattle.model.specs.Calls.Call.{opening};
 ghost use Rattle.model.specs.Calls.Reply.{done};
 ghost use Rattle.rights.specs.Contents.{contents, lent_cells};
@@ -10,7 +9,7 @@ ghost use Rattle.model.specs.State.{reserved};
 
 use crate::faults::RegisterFault;
 use crate::register::Register;
-use crate::register::checks::{account_in_range, cells_in_range, policy_known};
+use crate::register::checks::{account_in_range, cells_in_range, policy_known, refuse_if};
 use model::records::DraftRecord;
 use rulings::Ruling;
 
@@ -28,10 +27,9 @@ impl Register<'_> {
         ensures told { replied (λ _. done) result ≡ reply (R.ranking ruling.now) (contents self.old) (opening draft owner policy cells) }
         ensures left { contents self.new ≡ next (R.ranking ruling.now) (contents self.old) (opening draft owner policy cells) }
         ensures cells { lent_cells self.new ≡ lent_cells self.old }
-        ensures same { is_ok result ≡ false → self.new ≡ self.old }
+        ensures same { OnErr result (self.new ≡ self.old) }
         ensures about { TellsDraft draft result }
     {
-        self.may_open(ruling, draft, owner, policy, cells)?;
         let opened = DraftRecord {
             draft,
             owner,
@@ -39,30 +37,23 @@ impl Register<'_> {
             cells,
             last: 0,
         };
+        self.may_open(ruling, &opened)?;
         self.drafts.add(opened)?;
         Ok(())
     }
 
-    fn may_open<R: Ruling>(
-        &self,
-        ruling: &R,
-        draft: u16,
-        owner: u16,
-        policy: u8,
-        cells: u16,
-    ) -> Result<(), RegisterFault>
-        ensures refused { refused_by result ≡ refusal (R.ranking ruling.now) (contents self.now) (opening draft owner policy cells) }
-        ensures about { TellsDraft draft result }
+    // Whether no row of the table refuses the draft.
+    fn may_open<R: Ruling>(&self, ruling: &R, opened: &DraftRecord) -> Result<(), RegisterFault>
+        ensures refused { refused_by result ≡ refusal (R.ranking ruling.now) (contents self.now) (opening opened.now.draft opened.now.owner opened.now.policy opened.now.cells) }
+        ensures about { TellsDraft opened.now.draft result }
     {
-        account_in_range(owner)?;
-        policy_known(ruling, policy)?;
-        cells_in_range(cells)?;
-        self.drafts.refuse_present(draft)?;
+        account_in_range(opened.owner)?;
+        policy_known(ruling, opened.policy)?;
+        cells_in_range(opened.cells)?;
+        self.drafts.refuse_present(opened.draft)?;
         self.drafts.refuse_full()?;
-        if cells_reserved(self.drafts.used()) + usize::from(cells) > self.grants.room() {
-            return Err(RegisterFault::NoCellsLeft);
-        }
-        Ok(())
+        let wanted = cells_reserved(self.drafts.used()) + usize::from(opened.cells);
+        refuse_if(wanted > self.grants.room(), RegisterFault::NoCellsLeft)
     }
 }
 
@@ -71,9 +62,5 @@ fn cells_reserved(drafts: &[DraftRecord]) -> usize
     requires { reserved drafts.now ≤ 4096 }
     ensures { result ≡ reserved drafts.now }
 {
-    let mut sum = 0;
-    for draft in drafts {
-        sum += usize::from(draft.cells);
-    }
-    sum
+    drafts.iter().map(|draft| usize::from(draft.cells)).sum()
 }

@@ -1,5 +1,4 @@
-ghost use Rattle.std.specs.Prelude.{◌≡◌, true, false, is_ok};
-ghost use Rattle.rulings.specs.Ranking.{Ranking};
+ghost use Rattle.std.specs.Prelude.{◌≡◌, OnErr};
 ghost use Rattle.model.specs.Calls.Call.{policing};
 ghost use Rattle.model.specs.Calls.Reply.{done};
 ghost use Rattle.rights.specs.Contents.{contents, lent_cells};
@@ -25,7 +24,7 @@ impl Register<'_> {
         ensures told { replied (λ _. done) result ≡ reply (R.ranking ruling.now) (contents self.old) (policing draft caller policy) }
         ensures left { contents self.new ≡ next (R.ranking ruling.now) (contents self.old) (policing draft caller policy) }
         ensures cells { lent_cells self.new ≡ lent_cells self.old }
-        ensures same { is_ok result ≡ false → self.new ≡ self.old }
+        ensures same { OnErr result (self.new ≡ self.old) }
         ensures about { TellsDraft draft result }
     {
         account_in_range(caller)?;

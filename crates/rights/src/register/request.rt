@@ -13,7 +13,6 @@ ghost use Rattle.rights.specs.Finding.{FoundDraft};
 
 use crate::answering::decide;
 use crate::faults::RegisterFault;
-use crate::gathered::gather;
 use crate::marks::is_named;
 use crate::register::Register;
 use crate::register::checks::{account_in_range, policy_known, right_in_range};
@@ -75,7 +74,7 @@ impl Register<'_> {
         if account == found.owner {
             return (Decision::Permitted, Some(account));
         }
-        let gathered = gather(self.grants.used(), draft, right);
+        let gathered = self.gather(draft, right);
         let marks = gathered.marks();
         if !is_named(marks, account) {
             return (Decision::Undecided, None);

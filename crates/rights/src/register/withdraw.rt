@@ -1,4 +1,4 @@
-ghost use Rattle.std.specs.Prelude.{◌≡◌, ℕ, true, false, ◌||◌, is_ok, Some, ◌==◌};
+ghost use Rattle.std.specs.Prelude.{◌≡◌, ℕ, Some, OnErr};
 ghost use Rattle.charts.specs.Members.{member};
 ghost use Rattle.charts.specs.Reaching.{above};
 ghost use Rattle.rulings.specs.Ranking.{Ranking};
@@ -13,16 +13,14 @@ ghost use Rattle.model.specs.State.{draft_of};
 ghost use Rattle.rights.specs.Contents.{contents};
 ghost use Rattle.rights.specs.Faults.{refused_by, replied, TellsGrant};
 ghost use Rattle.rights.specs.Finding.{FoundDraft};
-ghost use Rattle.rights.specs.Withdrawing.{stays_with};
 
 use crate::faults::RegisterFault;
-use crate::gathered::gather;
 use crate::marks::place_of;
 use crate::register::Register;
-use crate::register::checks::{account_in_range, right_in_range};
+use crate::register::checks::key_in_range;
 use charts::{Accounts, Marks, Passing, Without, search};
-use model::{DraftRecord, GrantKey, GrantRecord};
-use table::{Retain, TableFault};
+use model::{DraftRecord, GrantKey};
+use table::{Record, TableFault};
 
 impl Register<'_> {
     // Takes away the caller's grant to the account, and then every grant of the right whose grantor is not the owner
@@ -38,7 +36,7 @@ impl Register<'_> {
         ensures told { (R : Ranking) → replied withdrawn result ≡ reply R (contents self.old) (withdrawing draft right caller account) }
         ensures left { (R : Ranking) → contents self.new ≡ next R (contents self.old) (withdrawing draft right caller account) }
         ensures largest { LeavesLargestRest (contents self.old) (contents self.new) draft right caller account (replied withdrawn result) }
-        ensures same { is_ok result ≡ false → self.new ≡ self.old }
+        ensures same { OnErr result (self.new ≡ self.old) }
         ensures about { TellsGrant (key_of draft right caller account) result }
     {
         let key = GrantKey {
@@ -48,8 +46,12 @@ impl Register<'_> {
             account,
         };
         let found = self.may_withdraw(key)?;
-        let rule = self.without(key, &found);
-        let fell = self.grants.retain(&rule);
+        let reached = self.reached_without(key, &found);
+        let fell = self.grants.retain(|grant| {
+            let elsewhere = grant.draft != draft || grant.right != right;
+            let rooted = grant.grantor == found.owner || reached.contains(grant.grantor);
+            elsewhere || (grant.key() != key && rooted)
+        });
         Ok(fell as u16)
     }
 
@@ -59,56 +61,24 @@ impl Register<'_> {
         ensures found { FoundDraft (contents self.now) key.draft result }
         ensures about { TellsGrant key result }
     {
-        account_in_range(key.grantor)?;
-        account_in_range(key.account)?;
-        right_in_range(key.right)?;
+        key_in_range(key)?;
         let Some(found) = self.drafts.find(key.draft) else {
             return Err(RegisterFault::from(TableFault::Absent(key.draft)));
         };
-        let Some(_) = self.grants.find(key) else {
-            return Err(RegisterFault::from(TableFault::Absent(key)));
-        };
+        self.grants.find(key).ok_or(TableFault::Absent(key))?;
         Ok(found)
     }
 
-    // The rule by which grants stay when the one with the key is withdrawn.
-    fn without(&self, key: GrantKey, found: &DraftRecord) -> StillRooted
+    // The accounts to which delegatable grants lead from the owner once the grant with the key is gone.
+    fn reached_without(&self, key: GrantKey, found: &DraftRecord) -> Accounts
         requires { draft_of key.draft (contents self.now) ≡ Some found.now }
-        ensures key { result.key ≡ key }
-        ensures owner { result.owner ≡ found.now.owner }
-        ensures reached { (a : ℕ) → member result.reached a ≡ above (passing_of (unless key.grantor key.account (of_right key.draft key.right (contents self.now).grants))) found.now.owner a }
+        ensures { (a : ℕ) → member result a ≡ above (passing_of (unless key.grantor key.account (of_right key.draft key.right (contents self.now).grants))) found.now.owner a }
     {
-        let gathered = gather(self.grants.used(), key.draft, key.right);
+        let gathered = self.gather(key.draft, key.right);
         let marks = gathered.marks();
-        let at = place_of(marks, key.grantor, key.account);
+        let at = place_of(marks, key.grantor, key.account).unwrap_or(marks.len());
         let chart = Marks { marks };
         let left = Without { chart: &chart, at };
-        let reached = search(&Passing { chart: &left }, found.owner);
-        StillRooted {
-            key,
-            owner: found.owner,
-            reached,
-        }
-    }
-}
-
-// Keeps all grants but the one with the key and, of the same draft and right, those whose grantor is neither the
-// owner nor reached.
-#[derive(Clone, Copy)]
-struct StillRooted {
-    key: GrantKey,
-    owner: u16,
-    reached: Accounts,
-}
-
-impl Retain<GrantRecord> for StillRooted {
-    ghost stays = { λ s g. stays_with s.key (λ a. (a == s.owner) || member s.reached a) g };
-
-    fn keeps(&self, item: &GrantRecord) -> bool {
-        if item.draft != self.key.draft || item.right != self.key.right {
-            return true;
-        }
-        let named = item.grantor == self.key.grantor && item.account == self.key.account;
-        !named && (item.grantor == self.owner || self.reached.contains(item.grantor))
+        search(&Passing { chart: &left }, found.owner)
     }
 }

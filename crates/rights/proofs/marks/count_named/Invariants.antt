@@ -1,5 +1,5 @@
-use Rattle.std.proofs.Common.{◌≡◌, ℕ, ◌&&◌, ltb, take, is_some}
-use Rattle.table.specs.Used.{first}
+use Rattle.std.proofs.Common.{◌≡◌, ℕ, ◌<◌, take}
+use Rattle.std.specs.List.{list_any}
 use Rattle.charts.specs.Members.{member}
 use Rattle.rights.specs.Gathering.{names}
 use Rattle.rights.specs.Lengths.{count_below}
@@ -7,5 +7,5 @@ use Rattle.rights.proofs.marks.count_named.Given as goal
 
 abbrev pub invariant-loop-mark : goal.invariant-loop-mark
 invariant-loop-mark l =
-    ((a : ℕ) → member l.named a ≡ (ltb a 512 && is_some (first (names a) (take l.mark-index l.marks))))
+    ((a : ℕ) → a < 512 → member l.named a ≡ list_any (names a) (take l.mark-index l.marks))
     × (l.count ≡ count_below 512 (member l.named))

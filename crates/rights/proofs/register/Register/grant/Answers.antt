@@ -1,8 +1,5 @@
-use Rattle.std.proofs.Common.{◌≡◌, ℕ, ◌+◌, true, cond, [], ◌∷◌, ◌++◌, is_ok, Ok, Err, sym, refl, ap, ◌∙◌, subst, arith}
+use Rattle.std.proofs.Common.{sym, refl, subst, arith}
 use Rattle.std.proofs.lemmas.Result.{err_from_is_err_and}
-use Rattle.std.proofs.lemmas.Bool.{true≢false}
-use Rattle.table.specs.declared.TableFault.TheVariants.{Full}
-use Rattle.table.specs.Used.{used}
 use Rattle.rulings.specs.House.{house}
 use Rattle.rulings.specs.HouseLaws.{house_lawful}
 use Rattle.model.specs.Calls.Call.{granting}
@@ -10,8 +7,8 @@ use Rattle.model.specs.Promises.{RefusedToStayConsistent}
 use Rattle.model.proofs.Obeyed.{refused_reply, refused_next}
 use Rattle.model.proofs.Promised.{refused_to_stay_consistent}
 use Rattle.rights.specs.Contents.{contents}
-use Rattle.rights.proofs.Granting.{grant_put, serial_left, cell_left, grant_told, grant_left}
-use Rattle.rights.proofs.Registers.{still_reached, Left, left_fits, left_once, sound_throughout}
+use Rattle.rights.proofs.Granting.{serial_left, never_full, grant_told, grant_left}
+use Rattle.rights.proofs.Registers.{still_reached, Left, left_in_order, sound_throughout}
 use Rattle.rights.proofs.register.Register.grant.Goals as goal
 
 pub returns-in_err-found : goal.returns-in_err-found
@@ -26,7 +23,7 @@ returns-in_err-found c =
       consistent =
           subst (RefusedToStayConsistent s c.args.draft c.args.right c.args.caller c.args.account c.args.kind) (sym (refused_reply house s call _ (told.refused house)))
           (refused_to_stay_consistent house s (sound_throughout c.args.self.now) c.args.draft c.args.right c.args.caller c.args.account c.args.kind);
-      same = λ _. refl;
+      same = refl;
       about = told.about;
     })
 
@@ -35,35 +32,27 @@ overflow_add-serial c =
     let told = c.in_ok-found.ensures in
     omega (arith, serial_left c.args.self.now c.args.draft c.args.right c.args.caller c.args.account c.args.kind c.in_ok-found.found told.found.0 told.refused)
 
+pub returns-in_err-add : goal.returns-in_err-add
+returns-in_err-add c =
+    let told = c.in_ok-found.ensures in
+    absurd (never_full c.args.self.now c.args.draft c.args.right c.args.caller c.args.account c.args.kind c.in_ok-found.found told.found.0 told.refused c.in_err-add.ensures.value)
+
 pub invariant_of-self : goal.invariant_of-self
 invariant_of-self c =
+    let told = c.in_ok-found.ensures in
+    absurd (never_full c.args.self.now c.args.draft c.args.right c.args.caller c.args.account c.args.kind c.in_ok-found.found told.found.0 told.refused c.in_err-add.ensures.value)
+
+pub invariant_of-self-2 : goal.invariant_of-self-2
+invariant_of-self-2 c =
     let was = c.args.self.now in
     let d = c.args.draft in
     let told = c.in_ok-found.ensures in
     let x = c.in_ok-found.found in
-    let added = c.add-added.ensures in
-    let put = c.replace-counted.ensures in
-    let fits = cell_left was d c.args.right c.args.caller c.args.account c.args.kind x told.found.0 told.refused in
-    let well : is_ok c.add-added.result ≡ true = ap is_ok (added.value ∙ ap (λ b. cond b (Ok tt) (Err Full)) fits) in
-    let grants = added.used ∙ ap (λ b. cond b (used was.grants ++ grant_put d c.args.right c.args.caller c.args.account c.in_ok-found.kind (x.last + 1) ∷ []) (used was.grants)) well in
-    let reached : Left c.replace-counted.new.self c.add-added.new.self = still_reached was house house_lawful (granting d c.args.right c.args.caller c.args.account c.args.kind) _
-    (grant_left was d c.args.right c.args.caller c.args.account c.args.kind x told.found.0 told.refused c.in_ok-found.kind told.found.1 _ _ _ _ put.room added.room put.used grants house) in
-    record {
-      places_few = omega (arith, put.room, was.places_few);
-      cells_few = omega (arith, added.room, was.cells_few);
-      reservations_fit = left_fits c.replace-counted.new.self c.add-added.new.self reached;
-      drafts_once = left_once c.replace-counted.new.self c.add-added.new.self reached;
-      reached = reached;
-    }
-
-pub returns-in_err-added : goal.returns-in_err-added
-returns-in_err-added c =
-    let was = c.args.self.now in
-    let told = c.in_ok-found.ensures in
-    let fits = cell_left was c.args.draft c.args.right c.args.caller c.args.account c.args.kind c.in_ok-found.found told.found.0 told.refused in
-    let well = sym c.in_err-added.was ∙ c.add-added.ensures.value ∙ ap (λ b. cond b (Ok tt) (Err Full)) fits in
-    let z : ◌≡◌ {A = ℕ} 0 1 = cc in
-    absurd (omega arith)
+    let added = c.in_ok-add.ensures in
+    let put = c.replace.ensures in
+    let reached : Left c.replace.new.self c.add.new.self = still_reached was house house_lawful (granting d c.args.right c.args.caller c.args.account c.args.kind) _
+    (grant_left was d c.args.right c.args.caller c.args.account c.args.kind x told.found.0 told.refused c.in_ok-found.kind told.found.1 _ _ _ _ put.room added.room put.used added.used house) in
+    left_in_order was c.replace.new.self c.add.new.self put.room added.room reached
 
 pub returns : goal.returns
 returns c =
@@ -74,14 +63,14 @@ returns c =
     let k = c.args.kind in
     let told = c.in_ok-found.ensures in
     let x = c.in_ok-found.found in
-    let added = c.in_ok-added.ensures in
-    let put = c.in_ok-counted.ensures in
+    let added = c.in_ok-add.ensures in
+    let put = c.in_ok-replace.ensures in
     record {
       told = grant_told was d r c.args.caller a k x told.found.0 told.refused;
       left = grant_left was d r c.args.caller a k x told.found.0 told.refused c.in_ok-found.kind told.found.1 _ _ _ _ put.room added.room put.used added.used;
       consistent =
           subst (RefusedToStayConsistent (contents was) d r c.args.caller a k) (sym (grant_told was d r c.args.caller a k x told.found.0 told.refused house))
           (refused_to_stay_consistent house (contents was) (sound_throughout was) d r c.args.caller a k);
-      same = λ e. absurd (true≢false e);
+      same = tt;
       about = tt;
     }

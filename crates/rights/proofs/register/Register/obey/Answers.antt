@@ -1,38 +1,15 @@
 use Rattle.std.proofs.Common.{rules}
 use Rattle.rights.proofs.register.Register.obey.Goals as goal
 
-pub returns-in_err-close-in-Close : goal.returns-in_err-close-in-Close
-returns-in_err-close-in-Close g c =
-    let told = c.in_err-close-in-Close.ensures.told (g.R.Ruling.ranking c.args.ruling.now) in
-    let left = c.in_err-close-in-Close.ensures.left (g.R.Ruling.ranking c.args.ruling.now) in
-    search rules
+-- what a call says of every ranking it says of the one in hand
+pub returns-in-Close-clause-left : goal.returns-in-Close-clause-left
+returns-in-Close-clause-left g c = let is = c.close.ensures.left (g.R.Ruling.ranking c.args.ruling.now) in search rules
 
-pub returns-in_ok-close-in-Close : goal.returns-in_ok-close-in-Close
-returns-in_ok-close-in-Close g c =
-    let told = c.in_ok-close-in-Close.ensures.told (g.R.Ruling.ranking c.args.ruling.now) in
-    let left = c.in_ok-close-in-Close.ensures.left (g.R.Ruling.ranking c.args.ruling.now) in
-    search rules
+pub returns-in-Grant-clause-told : goal.returns-in-Grant-clause-told
+returns-in-Grant-clause-told g c = let is = c.grant.ensures.told (g.R.Ruling.ranking c.args.ruling.now) in search rules
 
-pub returns-in_err-grant-in-Grant : goal.returns-in_err-grant-in-Grant
-returns-in_err-grant-in-Grant g c =
-    let told = c.in_err-grant-in-Grant.ensures.told (g.R.Ruling.ranking c.args.ruling.now) in
-    let left = c.in_err-grant-in-Grant.ensures.left (g.R.Ruling.ranking c.args.ruling.now) in
-    search rules
+pub returns-in-Grant-clause-left : goal.returns-in-Grant-clause-left
+returns-in-Grant-clause-left g c = let is = c.grant.ensures.left (g.R.Ruling.ranking c.args.ruling.now) in search rules
 
-pub returns-in_ok-grant-in-Grant : goal.returns-in_ok-grant-in-Grant
-returns-in_ok-grant-in-Grant g c =
-    let told = c.in_ok-grant-in-Grant.ensures.told (g.R.Ruling.ranking c.args.ruling.now) in
-    let left = c.in_ok-grant-in-Grant.ensures.left (g.R.Ruling.ranking c.args.ruling.now) in
-    search rules
-
-pub returns-in_err-withdraw-in-Withdraw : goal.returns-in_err-withdraw-in-Withdraw
-returns-in_err-withdraw-in-Withdraw g c =
-    let told = c.in_err-withdraw-in-Withdraw.ensures.told (g.R.Ruling.ranking c.args.ruling.now) in
-    let left = c.in_err-withdraw-in-Withdraw.ensures.left (g.R.Ruling.ranking c.args.ruling.now) in
-    search rules
-
-pub returns-in_ok-withdraw-in-Withdraw : goal.returns-in_ok-withdraw-in-Withdraw
-returns-in_ok-withdraw-in-Withdraw g c =
-    let told = c.in_ok-withdraw-in-Withdraw.ensures.told (g.R.Ruling.ranking c.args.ruling.now) in
-    let left = c.in_ok-withdraw-in-Withdraw.ensures.left (g.R.Ruling.ranking c.args.ruling.now) in
-    search rules
+pub returns-in-Withdraw-clause-left : goal.returns-in-Withdraw-clause-left
+returns-in-Withdraw-clause-left g c = let is = c.withdraw.ensures.left (g.R.Ruling.ranking c.args.ruling.now) in search rules

@@ -1,14 +1,13 @@
-use Rattle.std.proofs.Common.{◌≡◌, true, false, cond, [], ◌∷◌, ◌++◌, is_ok, sym, refl, ◌∙◌, subst, arith}
-use Rattle.std.proofs.lemmas.Bool.{true≢false}
+use Rattle.std.proofs.Common.{◌≡◌, true, false, cond, [], ◌∷◌, ◌++◌, is_ok, sym, refl, ◌∙◌, subst}
 use Rattle.table.specs.Used.{used, room}
 use Rattle.model.specs.declared.records.DraftRecord.{DraftRecord}
 use Rattle.rights.specs.Contents.{contents}
 use Rattle.model.specs.Calls.Call.{opening}
 use Rattle.model.specs.History.{Reached}
 use Rattle.model.specs.State.{state}
-use Rattle.model.proofs.Obeyed.{obeyed_reply, obeyed_next}
+use Rattle.model.proofs.Obeyed.{obeyed_next}
 use Rattle.model.proofs.States.{same_state}
-use Rattle.rights.proofs.Registers.{still_reached, Left, left_fits, left_once}
+use Rattle.rights.proofs.Registers.{still_reached, Left, left_in_order}
 use Rattle.rights.proofs.register.Register.open.Goals as goal
 
 pub invariant_of-self : goal.invariant_of-self
@@ -24,24 +23,4 @@ invariant_of-self g c =
       | true ↦ λ is. still_reached was R (g.R.Ruling.laws c.args.ruling.now) call _ (same_state added.room refl is refl ∙ obeyed_next R s call none)
       | false ↦ λ is. subst (λ x. ∥ Reached x ∥₁) (same_state (sym added.room) refl (sym is) refl) was.reached
     ] added.used in
-    record {
-      places_few = omega (arith, added.room, was.places_few);
-      cells_few = was.cells_few;
-      reservations_fit = left_fits c.add.new.self was.grants reached;
-      drafts_once = left_once c.add.new.self was.grants reached;
-      reached = reached;
-    }
-
-pub returns : goal.returns
-returns g c =
-    let R = g.R.Ruling.ranking c.args.ruling.now in
-    let s = contents c.args.self.now in
-    let call = opening c.args.draft c.args.owner c.args.policy c.args.cells in
-    let none = sym c.in_ok-may_open.ensures.refused in
-    record {
-      told = obeyed_reply R s call none;
-      left = same_state c.in_ok-add.ensures.room refl c.in_ok-add.ensures.used refl ∙ obeyed_next R s call none;
-      cells = refl;
-      same = λ e. absurd (true≢false e);
-      about = tt;
-    }
+    left_in_order was c.add.new.self was.grants added.room refl reached

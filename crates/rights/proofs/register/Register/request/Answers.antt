@@ -8,8 +8,8 @@ use Rattle.rights.proofs.Asked.{requesting_told}
 use Rattle.rights.proofs.Registers.{sound_throughout}
 use Rattle.rights.proofs.register.Register.request.Goals as goal
 
-pub returns : goal.returns
-returns g c =
+pub returns-clause-settled : goal.returns-clause-settled
+returns-clause-settled g c =
     let R = g.R.Ruling.ranking c.args.ruling.now in
     let s = contents c.args.self.now in
     let d = c.args.draft in
@@ -18,8 +18,4 @@ returns g c =
     let asked = c.in_ok-found.ensures in
     let told = requesting_told R s d r asked.refused c.in_ok-found.found asked.found a
     (passed _ AccountTooLarge tt c.in_ok-account_in_range.ensures) c.answer.result c.answer.ensures in
-    record {
-      told = told;
-      settled = subst (AnswersByTheList s R d r a) (sym told) (answers_by_the_list s (sound_throughout c.args.self.now) R (g.R.Ruling.laws c.args.ruling.now) d r a);
-      about = tt;
-    }
+    subst (AnswersByTheList s R d r a) (sym told) (answers_by_the_list s (sound_throughout c.args.self.now) R (g.R.Ruling.laws c.args.ruling.now) d r a)

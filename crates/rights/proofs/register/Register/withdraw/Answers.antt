@@ -1,6 +1,9 @@
-use Rattle.std.proofs.Common.{◌≡◌, ℕ, refl, arith}
+use Rattle.std.proofs.Common.{◌≡◌, ℕ, ◌||◌, eqb, filter, refl, rules, arith}
+use Rattle.std.proofs.lemmas.Fn.{filter_same}
+use Rattle.table.specs.Used.{used}
+use Rattle.model.specs.Grants.{key_of}
+use Rattle.rights.specs.Withdrawing.{stays_with}
 use Rattle.std.proofs.lemmas.Result.{err_from_is_err_and}
-use Rattle.std.proofs.lemmas.Bool.{true≢false}
 use Rattle.table.proofs.Cells.{used_within}
 use Rattle.charts.specs.Members.{member}
 use Rattle.rulings.specs.House.{house}
@@ -8,9 +11,13 @@ use Rattle.rulings.specs.HouseLaws.{house_lawful}
 use Rattle.model.specs.Calls.Call.{withdrawing}
 use Rattle.model.proofs.Obeyed.{refused_reply, refused_next}
 use Rattle.rights.specs.Contents.{contents}
-use Rattle.rights.proofs.Registers.{still_reached, Left, left_fits, left_once}
+use Rattle.rights.proofs.Registers.{still_reached, Left, left_in_order}
 use Rattle.rights.proofs.Withdrawing.{withdrawal_left, withdrawal_told, withdrawal_largest}
+use Rattle.rights.proofs.register.Register.withdraw.Goals.{After-retain-fell}
 use Rattle.rights.proofs.register.Register.withdraw.Goals as goal
+
+stay : (c : After-retain-fell) → used c.retain-fell.new.self ≡ filter (stays_with (key_of c.args.draft c.args.right c.args.caller c.args.account) (λ b. eqb b c.in_ok-found.found.owner || member c.reached_without-reached.result b)) (used c.args.self.now.grants)
+stay c = filter_same _ _ _ (λ x b f' k. search rules) _ _ c.retain-fell.ensures.used
 
 pub returns-in_err-found : goal.returns-in_err-found
 returns-in_err-found c =
@@ -23,7 +30,7 @@ returns-in_err-found c =
       told = λ R. refused_reply R s call _ (told.refused R);
       left = λ R. refused_next R s call _ (told.refused R);
       largest = λ n is. let z : ◌≡◌ {A = ℕ} 0 1 = cc in absurd (omega arith);
-      same = λ _. refl;
+      same = refl;
       about = told.about;
     })
 
@@ -32,18 +39,12 @@ invariant_of-self c =
     let was = c.args.self.now in
     let d = c.args.draft in
     let found = c.in_ok-found.ensures in
-    let rule = c.without-rule.result in
-    let built = c.without-rule.ensures in
+    let reached = c.reached_without-reached in
     let kept = c.retain-fell.ensures in
-    let reached : Left was.drafts c.retain-fell.new.self = still_reached was house house_lawful (withdrawing d c.args.right c.args.caller c.args.account) _
-    (withdrawal_left was d c.args.right c.args.caller c.args.account c.in_ok-found.found found.found found.refused rule.key rule.owner (member rule.reached) built.key built.owner built.reached _ kept.used _ kept.room house) in
-    record {
-      places_few = was.places_few;
-      cells_few = omega (arith, kept.room, was.cells_few);
-      reservations_fit = left_fits was.drafts c.retain-fell.new.self reached;
-      drafts_once = left_once was.drafts c.retain-fell.new.self reached;
-      reached = reached;
-    }
+    let stay = stay (goal.at.invariant_of-self c).After-retain-fell in
+    let still : Left was.drafts c.retain-fell.new.self = still_reached was house house_lawful (withdrawing d c.args.right c.args.caller c.args.account) _
+    (withdrawal_left was d c.args.right c.args.caller c.args.account c.in_ok-found.found found.found found.refused (member reached.result) reached.ensures _ stay _ kept.room house) in
+    left_in_order was was.drafts c.retain-fell.new.self refl kept.room still
 
 pub overflow_cast-result : goal.overflow_cast-result
 overflow_cast-result c =
@@ -57,15 +58,15 @@ returns c =
     let r = c.args.right in
     let a = c.args.account in
     let found = c.in_ok-found.ensures in
-    let rule = c.without-rule.result in
-    let built = c.without-rule.ensures in
+    let reached = c.reached_without-reached in
     let kept = c.retain-fell.ensures in
-    let told = withdrawal_told was d r c.args.caller a c.in_ok-found.found found.found found.refused rule.key rule.owner (member rule.reached) built.key built.owner built.reached _ kept.used _ kept.value in
-    let left = withdrawal_left was d r c.args.caller a c.in_ok-found.found found.found found.refused rule.key rule.owner (member rule.reached) built.key built.owner built.reached _ kept.used _ kept.room in
+    let stay = stay (goal.at.returns c).After-retain-fell in
+    let told = withdrawal_told was d r c.args.caller a c.in_ok-found.found found.found found.refused (member reached.result) reached.ensures _ stay _ kept.value in
+    let left = withdrawal_left was d r c.args.caller a c.in_ok-found.found found.found found.refused (member reached.result) reached.ensures _ stay _ kept.room in
     record {
       told = told;
       left = left;
-      largest = withdrawal_largest was d r c.args.caller a c.in_ok-found.found found.found found.refused rule.key rule.owner (member rule.reached) built.key built.owner built.reached _ kept.used _ _ kept.room kept.value;
-      same = λ e. absurd (true≢false e);
+      largest = withdrawal_largest was d r c.args.caller a c.in_ok-found.found found.found found.refused (member reached.result) reached.ensures _ stay _ _ kept.room kept.value;
+      same = tt;
       about = tt;
     }
