@@ -1,4 +1,3 @@
-pub mod Parsing
 pub mod Positions
 pub mod Running
 pub mod Words

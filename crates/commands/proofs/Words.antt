@@ -1,6 +1,5 @@
 -- How long the words of a line are. Assumes nothing.
-use Rattle.std.proofs.Common.{ℕ, ◌<◌, ◌≤◌, length, decimal, arith, lit≤}
-use Rattle.std.proofs.lemmas.Fmt.{length-decimal-le}
+use Rattle.std.proofs.Common.{◌≤◌, length, lit≤}
 use Rattle.rights.specs.declared.faults.Layer.TheVariants.{Table, Register}
 use Rattle.rights.specs.Faults.{number, layer_of_row}
 use Rattle.commands.specs.declared.faults.StreamFault.{StreamFault}
@@ -11,10 +10,3 @@ pub layer_short : (f : StreamFault) → length (layer_word f) ≤ 8
 layer_short (ShortBuffer at) = lit≤ tt
 layer_short (Unread at e) = lit≤ tt
 layer_short (OfRegister at f) = elim (layer_of_row (number f)) as (λ l. length (register_word l) ≤ 8) [ Table ↦ lit≤ tt | Register ↦ lit≤ tt ]
-
--- numbers of one byte and of two
-pub byte_short : (n : ℕ) → n < 256 → length (decimal n) ≤ 3
-byte_short n small = length-decimal-le 3 n (lit≤ tt) (omega arith) (omega arith)
-
-pub pair_short : (n : ℕ) → n < 65536 → length (decimal n) ≤ 5
-pair_short n small = length-decimal-le 5 n (lit≤ tt) (omega arith) (omega arith)

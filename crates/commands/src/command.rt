@@ -1,12 +1,13 @@
 // The commands of a stream, and how their bytes are read: a command byte, then operands of fixed widths,
-// numbers of two bytes with the high byte first.
+// numbers of two bytes with the high byte first. Each command has a parser of its own, whose pattern names its
+// operands byte by byte.
 ghost use Rattle.std.specs.Prelude.{◌≡◌};
 ghost use Rattle.commands.specs.Format.{parsed, open_operands, close_operands, grant_operands, withdraw_operands, policy_operands, request_operands, read};
 
 use rights::Call;
 
 // Why no command can be read.
-#[derive(Clone, Copy)]
+#[derive(Clone, Copy, Debug, PartialEq, Eq)]
 pub enum Unread {
     Unknown,
     CutOff,

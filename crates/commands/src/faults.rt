@@ -6,7 +6,7 @@ ghost use Rattle.commands.specs.Lines.{stream_number, layer_word};
 use crate::command::Unread;
 use rights::{Layer, RegisterFault};
 
-#[derive(Clone, Copy)]
+#[derive(Clone, Copy, Debug, PartialEq, Eq)]
 pub enum StreamFault {
     ShortBuffer(usize),
     Unread(usize, Unread),

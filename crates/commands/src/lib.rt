@@ -10,5 +10,6 @@ mod steps;
 
 pub use command::Unread;
 pub use faults::StreamFault;
+pub use line::LINE;
 pub use runs::run;
-pub use steps::{LINE, STREAM, Stepped, step};
+pub use steps::{STREAM, Stepped, step};

@@ -1,73 +1,93 @@
-// Lines, written into a buffer piece by piece. What lies behind a line keeps its contents.
-ghost use Rattle.std.specs.Prelude.{◌≡◌, ℕ, ◌+◌, ◌<◌, ◌≤◌, List, ◌++◌, length, decimal};
+// The lines that replies are written as.
+ghost use Rattle.std.specs.Prelude.{◌≡◌, ◌<◌, ◌≤◌, ◌++◌, length, decimal};
 ghost use Rattle.commands.specs.Lines.{answer, words, decision_words, refusal_words, layer_word, line, stream_number};
-ghost use Rattle.text.specs.Text.{Holds, over};
+ghost use Rattle.text.specs.Text.{Puts};
 
 use crate::faults::StreamFault;
+use arrayvec::CapacityError;
 use model::Decision;
 use rights::Outcome;
-use text::{put, put_number};
+use text::Text;
 
-// The line of what the command at a position gave; tells its length.
-pub(crate) fn write_line(buffer: &mut [u8], at: usize, res: Result<Outcome, StreamFault>) -> usize
-    requires { (32 ≤ length buffer.old) × (at < 65536) }
-    ensures value { result ≡ length (line at (answer res)) }
-    ensures bound { result ≤ 32 }
-    ensures after { buffer.new ≡ over buffer.old (line at (answer res)) }
+// No line is longer.
+pub const LINE: usize = 32;
+
+type Line = Text<LINE>;
+
+// The line of what the command at a position gave.
+pub(crate) fn line_of(at: usize, reply: Result<Outcome, StreamFault>) -> Line
+    requires { at < 65536 }
+    ensures { result ≡ line at (answer reply) }
 {
-    let n = put_number(buffer, 0, at);
-    let n = put(buffer, n, b" ");
-    let n = put_words(buffer, n, res);
-    put(buffer, n, b"\n")
+    let mut text = Text::new();
+    put_line(&mut text, at, reply).unwrap();
+    text
 }
 
-// Each function below puts its text at a place, behind the text up to there, and tells the place behind it.
-// No reply takes more than 20 bytes.
-fn put_words(buffer: &mut [u8], at: usize, res: Result<Outcome, StreamFault>) -> usize
-    requires { at + 20 ≤ length buffer.old }
-    ensures bound { result ≤ at + 20 }
-    ensures after { (base front : List ℕ) → Holds base front at buffer.old → Holds base (front ++ words (answer res)) result buffer.new }
+#[tactic(auto, using(text::proofs::Lengths::lengths))]
+fn put_line(
+    text: &mut Line,
+    at: usize,
+    reply: Result<Outcome, StreamFault>,
+) -> Result<(), CapacityError>
+    requires { at < 65536 }
+    ensures put { Puts LINE result text.old (line at (answer reply)) text.new }
+    ensures short { length (line at (answer reply)) ≤ LINE }
 {
-    match res {
-        Ok(Outcome::Done) => put(buffer, at, b"done"),
-        Ok(Outcome::Closed(count)) => put_counted(buffer, at, b"closed ", count),
-        Ok(Outcome::Granted(serial)) => put_counted(buffer, at, b"granted ", serial),
-        Ok(Outcome::Withdrawn(count)) => put_counted(buffer, at, b"withdrawn ", count),
-        Ok(Outcome::Decided(decision, decider)) => put_decision(buffer, at, decision, decider),
-        Err(fault) => put_refusal(buffer, at, fault),
+    text.put_number(at)?;
+    text.put(b" ")?;
+    put_words(text, reply)?;
+    text.put(b"\n")
+}
+
+fn put_words(text: &mut Line, reply: Result<Outcome, StreamFault>) -> Result<(), CapacityError>
+    ensures put { Puts LINE result text.old (words (answer reply)) text.new }
+    ensures short { length (words (answer reply)) ≤ 20 }
+{
+    match reply {
+        Ok(Outcome::Done) => text.put(b"done"),
+        Ok(Outcome::Closed(count)) => put_counted(text, b"closed ", count),
+        Ok(Outcome::Granted(serial)) => put_counted(text, b"granted ", serial),
+        Ok(Outcome::Withdrawn(count)) => put_counted(text, b"withdrawn ", count),
+        Ok(Outcome::Decided(decision, decider)) => put_decision(text, decision, decider),
+        Err(fault) => put_refusal(text, fault),
     }
 }
 
-fn put_counted(buffer: &mut [u8], at: usize, word: &[u8], count: u16) -> usize
-    requires { (at + 20 ≤ length buffer.old) × (length word.now ≤ 15) }
-    ensures bound { result ≤ at + 20 }
-    ensures after { (base front : List ℕ) → Holds base front at buffer.old → Holds base (front ++ (word.now ++ decimal count)) result buffer.new }
+#[tactic(auto, using(text::proofs::Lengths::lengths))]
+fn put_counted(text: &mut Line, word: &[u8], count: u16) -> Result<(), CapacityError>
+    requires { length word.now ≤ 15 }
+    ensures put { Puts LINE result text.old (word.now ++ decimal count) text.new }
+    ensures short { length (word.now ++ decimal count) ≤ 20 }
 {
-    let n = put(buffer, at, word);
-    put_number(buffer, n, usize::from(count))
+    text.put(word)?;
+    text.put_number(count)
 }
 
-fn put_decision(buffer: &mut [u8], at: usize, decision: Decision, decider: Option<u16>) -> usize
-    requires { at + 20 ≤ length buffer.old }
-    ensures bound { result ≤ at + 20 }
-    ensures after { (base front : List ℕ) → Holds base front at buffer.old → Holds base (front ++ decision_words decision decider) result buffer.new }
+fn put_decision(
+    text: &mut Line,
+    decision: Decision,
+    decider: Option<u16>,
+) -> Result<(), CapacityError>
+    ensures put { Puts LINE result text.old (decision_words decision decider) text.new }
+    ensures short { length (decision_words decision decider) ≤ 20 }
 {
     match (decision, decider) {
-        (Decision::Permitted, Some(account)) => put_counted(buffer, at, b"permitted ", account),
-        (Decision::Permitted, None) => put(buffer, at, b"permitted"),
-        (Decision::Denied, Some(account)) => put_counted(buffer, at, b"denied ", account),
-        (Decision::Denied, None) => put(buffer, at, b"denied"),
-        (Decision::Undecided, _) => put(buffer, at, b"undecided"),
+        (Decision::Permitted, Some(account)) => put_counted(text, b"permitted ", account),
+        (Decision::Permitted, None) => text.put(b"permitted"),
+        (Decision::Denied, Some(account)) => put_counted(text, b"denied ", account),
+        (Decision::Denied, None) => text.put(b"denied"),
+        (Decision::Undecided, _) => text.put(b"undecided"),
     }
 }
 
-fn put_refusal(buffer: &mut [u8], at: usize, fault: StreamFault) -> usize
-    requires { at + 20 ≤ length buffer.old }
-    ensures bound { result ≤ at + 20 }
-    ensures after { (base front : List ℕ) → Holds base front at buffer.old → Holds base (front ++ refusal_words (stream_number fault) (layer_word fault)) result buffer.new }
+#[tactic(auto, using(text::proofs::Lengths::lengths, crate::proofs::Words::layer_short))]
+fn put_refusal(text: &mut Line, fault: StreamFault) -> Result<(), CapacityError>
+    ensures put { Puts LINE result text.old (refusal_words (stream_number fault) (layer_word fault)) text.new }
+    ensures short { length (refusal_words (stream_number fault) (layer_word fault)) ≤ 20 }
 {
-    let n = put(buffer, at, b"refused ");
-    let n = put_number(buffer, n, usize::from(fault.number()));
-    let n = put(buffer, n, b" ");
-    put(buffer, n, fault.layer())
+    text.put(b"refused ")?;
+    text.put_number(fault.number())?;
+    text.put(b" ")?;
+    text.put(fault.layer())
 }

@@ -1,5 +1,5 @@
 // A command as a call on the register.
-ghost use Rattle.std.specs.Prelude.{◌≡◌, false, is_ok};
+ghost use Rattle.std.specs.Prelude.{◌≡◌, OnErr};
 ghost use Rattle.rulings.specs.Ranking.{Ranking};
 ghost use Rattle.rights.specs.Contents.{contents};
 ghost use Rattle.model.specs.Meaning.{reply, next};
@@ -20,11 +20,10 @@ pub(crate) fn obey<R: Ruling>(
 ) -> Result<Outcome, StreamFault>
     ensures told { answer result ≡ by_call (reply (R.ranking ruling.now) (contents register.old) (call_of call)) }
     ensures left { contents register.new ≡ next (R.ranking ruling.now) (contents register.old) (call_of call) }
-    ensures same { is_ok result ≡ false → register.new ≡ register.old }
+    ensures same { OnErr result (register.new ≡ register.old) }
     ensures about { TellsPosition at result }
 {
-    match register.obey(ruling, call) {
-        Ok(outcome) => Ok(outcome),
-        Err(fault) => Err(StreamFault::from((at, fault))),
-    }
+    register
+        .obey(ruling, call)
+        .map_err(|fault| StreamFault::from((at, fault)))
 }

@@ -1,11 +1,12 @@
 // A whole stream.
-ghost use Rattle.std.specs.Prelude.{◌≡◌, false, is_ok, IfOk, if◌then◌else◌};
+ghost use Rattle.std.specs.Prelude.{◌≡◌, is_ok, IfOk, if◌then◌else◌, OnErr};
 ghost use Rattle.rulings.specs.Ranking.{Ranking};
 ghost use Rattle.model.specs.Law.{Law};
 ghost use Rattle.rights.specs.Contents.{contents};
 ghost use Rattle.commands.specs.Stream.{counted, commands, lines, left_by};
 
-use crate::steps::{LINE, STREAM, Stepped, step};
+use crate::line::LINE;
+use crate::steps::{counted, step};
 use rights::Register;
 use rulings::Ruling;
 use std::alloc::{AllocError, Global};
@@ -21,22 +22,18 @@ pub fn run<R: Ruling>(
 ) -> Result<Vec<u8>, AllocError>
     ensures value { IfOk result (λ v. v.items ≡ lines (R.ranking ruling.now) (contents register.old) (commands (counted input.now))) }
     ensures left { contents register.new ≡ (if is_ok result then left_by (R.ranking ruling.now) (contents register.old) (commands (counted input.now)) else contents register.old) }
-    ensures same { is_ok result ≡ false → register.new ≡ register.old }
+    ensures same { OnErr result (register.new ≡ register.old) }
     ensures law { Law }
 {
-    let end = input.len().min(STREAM);
+    let end = counted(input).len();
     let mut out = Vec::with_capacity(heap, LINE * end)?;
+    // A run is made of steps, and each puts its line into a buffer of its caller.
     let mut line = [0; LINE];
     let mut at = 0;
-    loop {
-        let Ok(told) = step(register, ruling, input, at, &mut line) else {
-            // The buffer has room for a line.
-            unreachable()
-        };
-        let Stepped::Line { length, next } = told else {
-            return Ok(out);
-        };
-        out.extend_from_slice(&line[0..length])?;
-        at = next;
+    // The buffer has room for a line.
+    while let Some(told) = step(register, ruling, input, at, &mut line).unwrap() {
+        out.extend_from_slice(&line[..told.length])?;
+        at = told.next;
     }
+    Ok(out)
 }

@@ -17,92 +17,114 @@ use std::env;
 use terms::{CELLS, DRAFT_CELLS, Kind};
 
 #[derive(Clone, Copy)]
+enum What {
+    Search,
+    Request,
+    Settle,
+}
+
+impl From<&str> for What {
+    fn from(word: &str) -> What {
+        match word {
+            "search" => What::Search,
+            "request" => What::Request,
+            _ => What::Settle,
+        }
+    }
+}
+
+#[derive(Clone, Copy)]
+enum Order {
+    Forward,
+    Backward,
+}
+
+impl From<&str> for Order {
+    fn from(word: &str) -> Order {
+        match word {
+            "backward" => Order::Backward,
+            _ => Order::Forward,
+        }
+    }
+}
+
+#[derive(Clone, Copy)]
 struct Plan {
-    search: bool,
-    request: bool,
+    what: What,
     lines: u16,
     step: u16,
-    backward: bool,
+    order: Order,
     times: u32,
 }
 
 fn main(rt: HostRuntime) -> anyhow::Result<()> {
-    run(&rt)
+    let plan = read_plan(&rt)?;
+    match plan.what {
+        What::Search => search_often(&rt, &plan),
+        What::Settle => settle_often(&rt, &plan),
+        What::Request => ask_often(&rt, &plan),
+    }
 }
 
-fn run(rt: &HostRuntime) -> anyhow::Result<()> {
-    let plan = read_plan(rt)?;
-    if plan.request {
-        return ask(rt, &plan);
-    }
-    let marks = draw(rt.alloc(), &plan)?;
+fn search_often(rt: &HostRuntime, plan: &Plan) -> anyhow::Result<()> {
+    let marks = draw(rt.alloc(), plan)?;
     let chart = Marks { marks: &marks };
-    if plan.search {
-        let found = search_often(&chart, plan.times);
-        println!(rt; "account 511 is reached: {found}")?;
-    } else {
-        match settle_often(&chart, plan.times) {
-            Some(at) => println!(rt; "account 511 is picked by line {at}")?,
-            None => println!(rt; "account 511 has no line")?,
-        }
+    let found = last_of(plan.times, || search(&chart, 0).contains(511)).unwrap_or(false);
+    println!(rt; "account 511 is reached: {found}")?;
+    Ok(())
+}
+
+fn settle_often(rt: &HostRuntime, plan: &Plan) -> anyhow::Result<()> {
+    let marks = draw(rt.alloc(), plan)?;
+    let chart = Marks { marks: &marks };
+    match last_of(plan.times, || settle(&chart, 0, &House, 3).pick(511)).flatten() {
+        Some(at) => println!(rt; "account 511 is picked by line {at}")?,
+        None => println!(rt; "account 511 has no line")?,
     }
     Ok(())
 }
 
-fn search_often(chart: &Marks, times: u32) -> bool {
-    let mut found = false;
-    for _ in 0..times {
-        found = search(chart, 0).contains(511);
-    }
-    found
-}
-
-fn settle_often(chart: &Marks, times: u32) -> Option<u16> {
-    let mut place = None;
-    for _ in 0..times {
-        place = settle(chart, 0, &House, 3).pick(511);
-    }
-    place
-}
-
 // Asks for account 511 on the last of four full drafts.
-fn ask(rt: &HostRuntime, plan: &Plan) -> anyhow::Result<()> {
+fn ask_often(rt: &HostRuntime, plan: &Plan) -> anyhow::Result<()> {
     let heap = rt.alloc();
-    let mut places = vec![in heap; DraftRecord::BLANK; 4]?;
-    let mut cells = vec![in heap; GrantRecord::BLANK; CELLS]?;
+    let mut places = vec![in heap; DraftRecord::default(); 4]?;
+    let mut cells = vec![in heap; GrantRecord::default(); CELLS]?;
     let mut register = Register::build(&mut places, &mut cells);
     for draft in 0..4 {
         fill(&mut register, draft, plan.step);
     }
-    let (decision, decider) = ask_often(&register, plan.times);
-    let by = decider.unwrap_or(0);
-    match decision {
-        Decision::Permitted => println!(rt; "account 511 is permitted by {by}")?,
-        Decision::Denied => println!(rt; "account 511 is denied by {by}")?,
-        Decision::Undecided => println!(rt; "account 511 is undecided")?,
+    let told = last_of(plan.times, || register.request(&House, 3, 0, 511));
+    match told {
+        Some(Ok((Decision::Permitted, by))) => {
+            println!(rt; "account 511 is permitted by {}", by.unwrap_or(0))?
+        }
+        Some(Ok((Decision::Denied, by))) => {
+            println!(rt; "account 511 is denied by {}", by.unwrap_or(0))?
+        }
+        _ => println!(rt; "account 511 is undecided")?,
     }
     Ok(())
+}
+
+// What the last of so many calls gives.
+fn last_of<T: Drop, F: FnMut() -> T>(times: u32, mut call: F) -> Option<T>
+    requires { F.IsAlwaysCallable call }
+{
+    let mut last = None;
+    for _ in 0..times {
+        last = Some(call());
+    }
+    last
 }
 
 // Opens a draft and grants on it until its 1,024 cells are in use: one grant to each account, then a second, and a
 // third. What is refused, as a second grant by the owner to an account, is passed over.
 fn fill(register: &mut Register, draft: u16, step: u16) {
     let _ = register.open(&House, draft, 0, 3, DRAFT_CELLS);
-    for i in 0..8192u16 {
-        let to = 1 + i % 511;
-        let from = to.saturating_sub(step.saturating_add(i / 511));
+    for i in 0..8192 {
+        let (from, to) = ends(i, step);
         let _ = register.grant(draft, 0, from, to, 2);
     }
-}
-
-fn ask_often(register: &Register, times: u32) -> (Decision, Option<u16>) {
-    let mut answer = (Decision::Undecided, None);
-    for _ in 0..times {
-        if let Ok(told) = register.request(&House, 3, 0, 511) {
-            answer = told;
-        }
-    }
-    answer
 }
 
 fn read_plan(rt: &HostRuntime) -> anyhow::Result<Plan> {
@@ -113,28 +135,33 @@ fn read_plan(rt: &HostRuntime) -> anyhow::Result<Plan> {
     let order = args.next().context("no order")?;
     let times = args.next().context("no number of times")?;
     Ok(Plan {
-        search: what.as_str() == "search",
-        request: what.as_str() == "request",
+        what: What::from(what.as_str()),
         lines: lines.parse::<u16>()?,
         step: step.parse::<u16>()?,
-        backward: order.as_str() == "backward",
+        order: Order::from(order.as_str()),
         times: times.parse::<u32>()?,
     })
 }
 
+// Between which accounts a line leads: one to each account, then a second to each, from one further back.
+fn ends(line: u16, step: u16) -> (u16, u16) {
+    let to = 1 + line % 511;
+    let back = step.saturating_add(line / 511);
+    (to.saturating_sub(back), to)
+}
+
 fn draw(heap: Global, plan: &Plan) -> Result<Vec<Mark>, AllocError> {
     let mut marks = Vec::new(heap);
-    for i in 0..plan.lines {
-        let to = 1 + i % 511;
-        let back = plan.step.saturating_add(i / 511);
+    for serial in 0..plan.lines {
+        let (from, to) = ends(serial, plan.step);
         marks.push(Mark {
-            from: to.saturating_sub(back),
+            from,
             to,
             kind: Kind::Delegatable,
-            serial: i,
+            serial,
         })?;
     }
-    if plan.backward {
+    if let Order::Backward = plan.order {
         marks.reverse();
     }
     Ok(marks)

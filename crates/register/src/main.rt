@@ -13,8 +13,8 @@ fn main(rt: HostRuntime) -> io::Result<()> {
     let heap = rt.alloc();
     let mut input = Vec::new(heap);
     rt.stdin().take(STREAM as u64).read_to_end(&mut input)?;
-    let mut places = vec![in heap; DraftRecord::BLANK; PLACES]?;
-    let mut cells = vec![in heap; GrantRecord::BLANK; CELLS]?;
+    let mut places = vec![in heap; DraftRecord::default(); PLACES]?;
+    let mut cells = vec![in heap; GrantRecord::default(); CELLS]?;
     let mut register = Register::build(&mut places, &mut cells);
     let lines = run(heap, &mut register, &House, &input)?;
     rt.stdout().write_all(&lines)

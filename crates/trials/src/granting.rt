@@ -44,8 +44,8 @@ fn grants_rivals(rt: &impl Abort, register: &mut Register) -> Result<(), Fail> {
 // The draft reserves one cell of the eight.
 #[test]
 fn a_withdrawn_grant_gives_its_cell_back(rt: HostRuntime) -> Result<(), Fail> {
-    let mut places = [DraftRecord::BLANK; 1];
-    let mut cells = [GrantRecord::BLANK; 8];
+    let mut places = [DraftRecord::default(); 1];
+    let mut cells = [GrantRecord::default(); 8];
     let mut register = Register::build(&mut places, &mut cells);
     opens(&rt, &mut register, 0, 1);
     tells(&rt, register.grant(7, 0, 1, 2, 2), 1)?;
@@ -57,8 +57,8 @@ fn a_withdrawn_grant_gives_its_cell_back(rt: HostRuntime) -> Result<(), Fail> {
 // Account 511, right 7 and 1,024 cells pass; 512, 8 and 1,025 do not.
 #[test]
 fn the_greatest_numbers_pass(rt: HostRuntime) -> Result<(), Fail> {
-    let mut places = [DraftRecord::BLANK; 1];
-    let mut cells = [GrantRecord::BLANK; 1024];
+    let mut places = [DraftRecord::default(); 1];
+    let mut cells = [GrantRecord::default(); 1024];
     let mut register = Register::build(&mut places, &mut cells);
     refuses(&rt, register.open(&House, 7, 512, 0, 1024), 1)?;
     refuses(&rt, register.open(&House, 7, 511, 0, 1025), 5)?;
@@ -75,8 +75,8 @@ fn the_greatest_numbers_pass(rt: HostRuntime) -> Result<(), Fail> {
 // One byte short the sheet is refused and the buffer stays; what lies behind the sheet stays too.
 #[test]
 fn a_sheet_wants_its_length(rt: HostRuntime) -> Result<(), Fail> {
-    let mut places = [DraftRecord::BLANK; 1];
-    let mut cells = [GrantRecord::BLANK; 8];
+    let mut places = [DraftRecord::default(); 1];
+    let mut cells = [GrantRecord::default(); 8];
     let mut register = Register::build(&mut places, &mut cells);
     opens(&rt, &mut register, 1, 8);
     grants_rivals(&rt, &mut register)?;
@@ -102,8 +102,8 @@ fn a_sheet_wants_its_length(rt: HostRuntime) -> Result<(), Fail> {
 // A serial is never given again, and the last one is 65,535.
 #[test]
 fn the_serials_end(rt: HostRuntime) -> Result<(), Fail> {
-    let mut places = [DraftRecord::BLANK; 1];
-    let mut cells = [GrantRecord::BLANK; 1];
+    let mut places = [DraftRecord::default(); 1];
+    let mut cells = [GrantRecord::default(); 1];
     let mut register = Register::build(&mut places, &mut cells);
     opens(&rt, &mut register, 0, 1);
     for serial in 1..65_535 {
@@ -118,8 +118,8 @@ fn the_serials_end(rt: HostRuntime) -> Result<(), Fail> {
 // The same grants under the same policy number, by one ruling and by another.
 #[test]
 fn the_ruling_in_hand_decides(rt: HostRuntime) -> Result<(), Fail> {
-    let mut places = [DraftRecord::BLANK; 1];
-    let mut cells = [GrantRecord::BLANK; 8];
+    let mut places = [DraftRecord::default(); 1];
+    let mut cells = [GrantRecord::default(); 8];
     let mut register = Register::build(&mut places, &mut cells);
     opens(&rt, &mut register, 0, 8);
     grants_rivals(&rt, &mut register)?;

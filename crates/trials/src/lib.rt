@@ -37,8 +37,8 @@ mod tests {
     #[test]
     fn what_cannot_be_read_is_not_obeyed(rt: HostRuntime) -> Result<(), Fail> {
         let heap = rt.alloc();
-        let mut places = [DraftRecord::BLANK; 1];
-        let mut cells = [GrantRecord::BLANK; 8];
+        let mut places = [DraftRecord::default(); 1];
+        let mut cells = [GrantRecord::default(); 8];
         let mut register = Register::build(&mut places, &mut cells);
         writes(&rt, heap, &mut register, &[], b"")?;
         writes(
@@ -67,18 +67,18 @@ mod tests {
     // At the end of the stream a short buffer is not looked at; behind a line a buffer keeps what it held.
     #[test]
     fn a_line_wants_a_buffer_of_32_bytes(rt: HostRuntime) {
-        let mut places = [DraftRecord::BLANK; 1];
-        let mut cells = [GrantRecord::BLANK; 8];
+        let mut places = [DraftRecord::default(); 1];
+        let mut cells = [GrantRecord::default(); 8];
         let mut register = Register::build(&mut places, &mut cells);
         let open = [1, 0, 7, 0, 1, 0, 0, 8];
         let mut short = [b'.'; 31];
         let told = step(&mut register, &House, &open, 0, &mut short);
         assert!(rt; matches!(told, Err(StreamFault::ShortBuffer(0))));
         let told = step(&mut register, &House, &open, 8, &mut short);
-        assert!(rt; matches!(told, Ok(Stepped::Finished)));
+        assert!(rt; matches!(told, Ok(None)));
         let mut line = [b'.'; 32];
         let told = step(&mut register, &House, &open, 0, &mut line);
-        assert!(rt; matches!(told, Ok(Stepped::Line { length: 7, next: 8 })));
+        assert!(rt; matches!(told, Ok(Some(Stepped { length: 7, next: 8 }))));
         assert_eq!(rt; &line, b"0 done\n.........................");
     }
 
@@ -87,8 +87,8 @@ mod tests {
     #[test]
     fn bounds_hold_to_the_last_number(rt: HostRuntime) -> Result<(), Fail> {
         let heap = rt.alloc();
-        let mut places = [DraftRecord::BLANK; 1];
-        let mut cells = vec![in heap; GrantRecord::BLANK; CELLS]?;
+        let mut places = [DraftRecord::default(); 1];
+        let mut cells = vec![in heap; GrantRecord::default(); CELLS]?;
         let mut register = Register::build(&mut places, &mut cells);
         writes(
             &rt,
@@ -137,8 +137,8 @@ mod tests {
 
     #[test]
     fn the_last_place_is_taken(rt: HostRuntime) -> Result<(), Fail> {
-        let mut places = [DraftRecord::BLANK; 1];
-        let mut cells = [GrantRecord::BLANK; 8];
+        let mut places = [DraftRecord::default(); 1];
+        let mut cells = [GrantRecord::default(); 8];
         let mut register = Register::build(&mut places, &mut cells);
         writes(
             &rt,
@@ -153,8 +153,8 @@ mod tests {
     #[test]
     fn a_closed_draft_gives_its_cells_back(rt: HostRuntime) -> Result<(), Fail> {
         let heap = rt.alloc();
-        let mut places = [DraftRecord::BLANK; 2];
-        let mut cells = [GrantRecord::BLANK; 8];
+        let mut places = [DraftRecord::default(); 2];
+        let mut cells = [GrantRecord::default(); 8];
         let mut register = Register::build(&mut places, &mut cells);
         writes(
             &rt,
@@ -184,8 +184,8 @@ mod tests {
     // may not grant. With the grant to 2 falls what 2 granted.
     #[test]
     fn grants_are_passed_on_and_withdrawn(rt: HostRuntime) -> Result<(), Fail> {
-        let mut places = [DraftRecord::BLANK; 1];
-        let mut cells = [GrantRecord::BLANK; 8];
+        let mut places = [DraftRecord::default(); 1];
+        let mut cells = [GrantRecord::default(); 8];
         let mut register = Register::build(&mut places, &mut cells);
         writes(
             &rt,
@@ -204,8 +204,8 @@ mod tests {
     #[test]
     fn rights_and_drafts_are_apart(rt: HostRuntime) -> Result<(), Fail> {
         let heap = rt.alloc();
-        let mut places = [DraftRecord::BLANK; 2];
-        let mut cells = [GrantRecord::BLANK; 8];
+        let mut places = [DraftRecord::default(); 2];
+        let mut cells = [GrantRecord::default(); 8];
         let mut register = Register::build(&mut places, &mut cells);
         writes(
             &rt,

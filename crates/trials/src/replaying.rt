@@ -8,8 +8,8 @@ use std::test::Fail;
 // Each call is made on what the one before it left, and a sheet has a buffer of its own, 0 behind it.
 #[test]
 fn a_history_is_replayed(rt: HostRuntime) -> Result<(), Fail> {
-    let mut places = [DraftRecord::BLANK; 1];
-    let mut cells = [GrantRecord::BLANK; 8];
+    let mut places = [DraftRecord::default(); 1];
+    let mut cells = [GrantRecord::default(); 8];
     let mut register = Register::build(&mut places, &mut cells);
     let open = Call::Open {
         draft: 7,
