@@ -1,6 +1,7 @@
 // The records of a register's two tables.
 ghost use Rattle.std.specs.Prelude.{◌≡◌};
 ghost use Rattle.model.specs.Grants.{key_of, mark_of};
+ghost use Rattle.model.specs.Keys.{by_draft, by_grant};
 
 use charts::Mark;
 use table::Record;
@@ -37,28 +38,37 @@ pub struct GrantKey {
     pub account: u16,
 }
 
-impl Record for DraftRecord {
-    type Key = u16;
-
-    ghost key = { λ x. x.draft };
-
-    fn key(&self) -> u16 {
-        self.draft
-    }
-}
-
-impl Record for GrantRecord {
-    type Key = GrantKey;
-
-    ghost key = { λ x. key_of x.draft x.right x.grantor x.account };
-
-    fn key(&self) -> GrantKey {
+impl GrantRecord {
+    // What the grant goes by.
+    pub fn key(&self) -> GrantKey
+        ensures { result ≡ key_of self.now.draft self.now.right self.now.grantor self.now.account }
+    {
         GrantKey {
             draft: self.draft,
             right: self.right,
             grantor: self.grantor,
             account: self.account,
         }
+    }
+}
+
+impl Record for DraftRecord {
+    type Key = u16;
+
+    ghost has = { λ x key. by_draft key x };
+
+    fn has_key(&self, key: u16) -> bool {
+        self.draft == key
+    }
+}
+
+impl Record for GrantRecord {
+    type Key = GrantKey;
+
+    ghost has = { λ x key. by_grant key x };
+
+    fn has_key(&self, key: GrantKey) -> bool {
+        self.key() == key
     }
 }
 

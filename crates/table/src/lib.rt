@@ -12,12 +12,20 @@ ghost use Rattle.std.specs.List.Retain.{IsFiltered};
 
 // A record that goes by a key.
 pub trait Record: Copy {
-    type Key: Copy + Eq;
+    type Key: Copy;
 
-    ghost key: { Self → Self.Key };
+    ghost has: { Self → Self.Key → Bool };
 
-    fn key(&self) -> Self::Key
-        ensures { result ≡ key self.now };
+    fn has_key(&self, key: Self::Key) -> bool
+        ensures { result ≡ has self.now key };
+}
+
+// A rule that tells which records stay in a table.
+pub trait Retain<R> {
+    ghost stays: { Self → R → Bool };
+
+    fn keeps(&self, item: &R) -> bool
+        ensures { result ≡ stays self.now item.now };
 }
 
 // Why a table refuses, with the key that is absent or present.
@@ -63,13 +71,13 @@ impl<'a, R: Record> Table<'a, R> {
 
     // The first record with that key.
     pub fn find(&self, key: R::Key) -> Option<R>
-        ensures { result ≡ first (λ x. R.Key.eq (R.key x) key) (used self.now) }
+        ensures { result ≡ first (λ x. R.has x key) (used self.now) }
     {
-        self.used().iter().copied().find(|r| r.key() == key)
+        self.used().iter().copied().find(|r| r.has_key(key))
     }
 
     pub fn refuse_present(&self, key: R::Key) -> Result<(), TableFault<R::Key>>
-        ensures { result ≡ (if is_some (first (λ x. R.Key.eq (R.key x) key) (used self.now)) then Err (TableFault.Present key) else Ok tt) }
+        ensures { result ≡ (if is_some (first (λ x. R.has x key) (used self.now)) then Err (TableFault.Present key) else Ok tt) }
     {
         if self.find(key).is_some() {
             return Err(TableFault::Present(key));
@@ -101,8 +109,8 @@ impl<'a, R: Record> Table<'a, R> {
 
     // Another record in the place of the first with that key.
     pub fn replace(&mut self, key: R::Key, item: R) -> Result<(), TableFault<R::Key>>
-        ensures value { result ≡ (if is_some (first (λ x. R.Key.eq (R.key x) key) (used self.old)) then Ok tt else Err (TableFault.Absent key)) }
-        ensures used { used self.new ≡ replaced (λ x. R.Key.eq (R.key x) key) item (used self.old) }
+        ensures value { result ≡ (if is_some (first (λ x. R.has x key) (used self.old)) then Ok tt else Err (TableFault.Absent key)) }
+        ensures used { used self.new ≡ replaced (λ x. R.has x key) item (used self.old) }
         ensures cells { cells self.new ≡ used self.new ++ drop (length (used self.old)) (cells self.old) }
         ensures room { room self.new ≡ room self.old }
     {
@@ -115,35 +123,45 @@ impl<'a, R: Record> Table<'a, R> {
 
     // The place of the first record with that key.
     fn position(&self, key: R::Key) -> Option<usize>
-        ensures { result ≡ position (λ x. R.Key.eq (R.key x) key) (used self.now) }
+        ensures { result ≡ position (λ x. R.has x key) (used self.now) }
     {
-        self.used().iter().position(|r| r.key() == key)
+        self.used().iter().position(|r| r.has_key(key))
     }
 
-    // Only the records at which `keep` answers `true`, in their order; tells how many went.
-    pub fn retain<F: FnMut(&R) -> bool>(&mut self, keep: F) -> usize
-        requires { F.IsAlwaysCallable keep }
+    // Only the records that the rule keeps, in their order; tells how many went.
+    pub fn retain<K: Retain<R>>(&mut self, rule: &K) -> usize
         ensures value { result + length (used self.new) ≡ length (used self.old) }
-        ensures used { IsFiltered (CalledAt F.FnMut) keep (used self.old) (used self.new) }
+        ensures used { used self.new ≡ filter (K.stays rule.now) (used self.old) }
         ensures cells { cells self.new ≡ used self.new ++ drop (length (used self.new)) (cells self.old) }
         ensures room { room self.new ≡ room self.old }
     {
-        let len = self.len;
-        self.len = compact(&mut self.cells[..len], keep);
-        len - self.len
+        self.keep(|item| rule.keeps(item))
     }
 
     // No record with that key any more; refuses where there is none.
     pub fn remove(&mut self, key: R::Key) -> Result<(), TableFault<R::Key>>
-        ensures value { result ≡ (if is_some (first (λ x. R.Key.eq (R.key x) key) (used self.old)) then Ok tt else Err (TableFault.Absent key)) }
-        ensures used { used self.new ≡ filter (λ x. not (R.Key.eq (R.key x) key)) (used self.old) }
+        ensures value { result ≡ (if is_some (first (λ x. R.has x key) (used self.old)) then Ok tt else Err (TableFault.Absent key)) }
+        ensures used { used self.new ≡ filter (λ x. not (R.has x key)) (used self.old) }
         ensures cells { cells self.new ≡ used self.new ++ drop (length (used self.new)) (cells self.old) }
         ensures room { room self.new ≡ room self.old }
     {
-        if self.retain(|r| r.key() != key) == 0 {
+        if self.keep(|r| !r.has_key(key)) == 0 {
             return Err(TableFault::Absent(key));
         }
         Ok(())
+    }
+
+    // Only the records at which `stays` answers `true`, in their order; tells how many went.
+    fn keep<F: FnMut(&R) -> bool>(&mut self, stays: F) -> usize
+        requires { F.IsAlwaysCallable stays }
+        ensures value { result + length (used self.new) ≡ length (used self.old) }
+        ensures used { IsFiltered (CalledAt F.FnMut) stays (used self.old) (used self.new) }
+        ensures cells { cells self.new ≡ used self.new ++ drop (length (used self.new)) (cells self.old) }
+        ensures room { room self.new ≡ room self.old }
+    {
+        let len = self.len;
+        self.len = compact(&mut self.cells[..len], stays);
+        len - self.len
     }
 }
 

@@ -1,4 +1,4 @@
-ghost use Rattle.std.specs.Prelude.{◌≡◌, ℕ, Some, OnErr};
+ghost use Rattle.std.specs.Prelude.{◌≡◌, ℕ, ◌||◌, Some, OnErr, ◌==◌};
 ghost use Rattle.charts.specs.Members.{member};
 ghost use Rattle.charts.specs.Reaching.{above};
 ghost use Rattle.rulings.specs.Ranking.{Ranking};
@@ -13,14 +13,15 @@ ghost use Rattle.model.specs.State.{draft_of};
 ghost use Rattle.rights.specs.Contents.{contents};
 ghost use Rattle.rights.specs.Faults.{refused_by, replied, TellsGrant};
 ghost use Rattle.rights.specs.Finding.{FoundDraft};
+ghost use Rattle.rights.specs.Withdrawing.{stays_with};
 
 use crate::faults::RegisterFault;
 use crate::marks::place_of;
 use crate::register::Register;
 use crate::register::checks::key_in_range;
 use charts::{Accounts, Marks, Passing, Without, search};
-use model::{DraftRecord, GrantKey};
-use table::{Record, TableFault};
+use model::{DraftRecord, GrantKey, GrantRecord};
+use table::{Retain, TableFault};
 
 impl Register<'_> {
     // Takes away the caller's grant to the account, and then every grant of the right whose grantor is not the owner
@@ -47,11 +48,12 @@ impl Register<'_> {
         };
         let found = self.may_withdraw(key)?;
         let reached = self.reached_without(key, &found);
-        let fell = self.grants.retain(|grant| {
-            let elsewhere = grant.draft != draft || grant.right != right;
-            let rooted = grant.grantor == found.owner || reached.contains(grant.grantor);
-            elsewhere || (grant.key() != key && rooted)
-        });
+        let rule = StillRooted {
+            key,
+            owner: found.owner,
+            reached,
+        };
+        let fell = self.grants.retain(&rule);
         Ok(fell as u16)
     }
 
@@ -80,5 +82,26 @@ impl Register<'_> {
         let chart = Marks { marks };
         let left = Without { chart: &chart, at };
         search(&Passing { chart: &left }, found.owner)
+    }
+}
+
+// Keeps all grants but the one with the key and, of the same draft and right, those whose grantor is neither the
+// owner nor reached.
+#[derive(Clone, Copy)]
+struct StillRooted {
+    key: GrantKey,
+    owner: u16,
+    reached: Accounts,
+}
+
+impl Retain<GrantRecord> for StillRooted {
+    ghost stays = { λ s g. stays_with s.key (λ a. (a == s.owner) || member s.reached a) g };
+
+    fn keeps(&self, item: &GrantRecord) -> bool {
+        if item.draft != self.key.draft || item.right != self.key.right {
+            return true;
+        }
+        let named = item.key() == self.key;
+        !named && (item.grantor == self.owner || self.reached.contains(item.grantor))
     }
 }

@@ -1,8 +1,4 @@
-use Rattle.std.proofs.Common.{◌≡◌, ℕ, ◌||◌, eqb, filter, refl, rules, arith}
-use Rattle.std.proofs.lemmas.Fn.{filter_same}
-use Rattle.table.specs.Used.{used}
-use Rattle.model.specs.Grants.{key_of}
-use Rattle.rights.specs.Withdrawing.{stays_with}
+use Rattle.std.proofs.Common.{◌≡◌, ℕ, refl, arith}
 use Rattle.std.proofs.lemmas.Result.{err_from_is_err_and}
 use Rattle.table.proofs.Cells.{used_within}
 use Rattle.charts.specs.Members.{member}
@@ -13,11 +9,7 @@ use Rattle.model.proofs.Obeyed.{refused_reply, refused_next}
 use Rattle.rights.specs.Contents.{contents}
 use Rattle.rights.proofs.Registers.{still_reached, Left, left_in_order}
 use Rattle.rights.proofs.Withdrawing.{withdrawal_left, withdrawal_told, withdrawal_largest}
-use Rattle.rights.proofs.register.Register.withdraw.Goals.{After-retain-fell}
 use Rattle.rights.proofs.register.Register.withdraw.Goals as goal
-
-stay : (c : After-retain-fell) → used c.retain-fell.new.self ≡ filter (stays_with (key_of c.args.draft c.args.right c.args.caller c.args.account) (λ b. eqb b c.in_ok-found.found.owner || member c.reached_without-reached.result b)) (used c.args.self.now.grants)
-stay c = filter_same _ _ _ (λ x b f' k. search rules) _ _ c.retain-fell.ensures.used
 
 pub returns-in_err-found : goal.returns-in_err-found
 returns-in_err-found c =
@@ -41,9 +33,8 @@ invariant_of-self c =
     let found = c.in_ok-found.ensures in
     let reached = c.reached_without-reached in
     let kept = c.retain-fell.ensures in
-    let stay = stay (goal.at.invariant_of-self c).After-retain-fell in
     let still : Left was.drafts c.retain-fell.new.self = still_reached was house house_lawful (withdrawing d c.args.right c.args.caller c.args.account) _
-    (withdrawal_left was d c.args.right c.args.caller c.args.account c.in_ok-found.found found.found found.refused (member reached.result) reached.ensures _ stay _ kept.room house) in
+    (withdrawal_left was d c.args.right c.args.caller c.args.account c.in_ok-found.found found.found found.refused (member reached.result) reached.ensures _ kept.used _ kept.room house) in
     left_in_order was was.drafts c.retain-fell.new.self refl kept.room still
 
 pub overflow_cast-result : goal.overflow_cast-result
@@ -60,13 +51,12 @@ returns c =
     let found = c.in_ok-found.ensures in
     let reached = c.reached_without-reached in
     let kept = c.retain-fell.ensures in
-    let stay = stay (goal.at.returns c).After-retain-fell in
-    let told = withdrawal_told was d r c.args.caller a c.in_ok-found.found found.found found.refused (member reached.result) reached.ensures _ stay _ kept.value in
-    let left = withdrawal_left was d r c.args.caller a c.in_ok-found.found found.found found.refused (member reached.result) reached.ensures _ stay _ kept.room in
+    let told = withdrawal_told was d r c.args.caller a c.in_ok-found.found found.found found.refused (member reached.result) reached.ensures _ kept.used _ kept.value in
+    let left = withdrawal_left was d r c.args.caller a c.in_ok-found.found found.found found.refused (member reached.result) reached.ensures _ kept.used _ kept.room in
     record {
       told = told;
       left = left;
-      largest = withdrawal_largest was d r c.args.caller a c.in_ok-found.found found.found found.refused (member reached.result) reached.ensures _ stay _ _ kept.room kept.value;
+      largest = withdrawal_largest was d r c.args.caller a c.in_ok-found.found found.found found.refused (member reached.result) reached.ensures _ kept.used _ _ kept.room kept.value;
       same = tt;
       about = tt;
     }
