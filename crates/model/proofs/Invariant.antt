@@ -35,7 +35,7 @@ outcome_more s [] m = refl
 outcome_more s (n ∷ h) m = outcome_more (after s n) h m
 
 -- what every obeyed call keeps, every call does
-next_keeps : (P : State → Type 0) (R : Ranking) (s : State) (c : Call) → P s → (refusal R s c ≡ None → P (left s c)) → P (next R s c)
+pub next_keeps : (P : State → Type 0) (R : Ranking) (s : State) (c : Call) → P s → (refusal R s c ≡ None → P (left s c)) → P (next R s c)
 next_keeps P R s c was obeyed =
     elim (refusal R s c) as (λ o. refusal R s c ≡ o → P (elim o as (λ _. State) [ Some n ↦ s | None ↦ left s c ])) [
       | Some n ↦ λ e. was
@@ -152,7 +152,7 @@ all_kept_weaker p P Q weaker (x ∷ xs) all =
       | false ↦ λ t. rest
     ] refl
 
-all_found : {X : Type 0} (p : X → Bool) (P : X → Type 0) (y : X) (xs : List X) → AllByRecursion P xs → first p xs ≡ Some y → P y
+pub all_found : {X : Type 0} (p : X → Bool) (P : X → Type 0) (y : X) (xs : List X) → AllByRecursion P xs → first p xs ≡ Some y → P y
 all_found p P y [] all found = let z : ◌≡◌ {A = ℕ} 0 1 = cc in absurd (omega arith)
 all_found p P y (x ∷ xs) all found =
     elim (p x) as (λ b. cond b (Some x) (first p xs) ≡ Some y → P y) [
@@ -173,12 +173,12 @@ count_kept : {X : Type 0} (p q : X → Bool) (xs : List X) → count_by p (filte
 count_kept p q xs = omega (arith, sum_by-filter_both q (λ x. not (q x)) (λ _. refl) (λ x. cond (p x) 1 0) xs)
 
 -- no grant is on a draft that is not open
-none_on : (d : ℕ) (xs : List DraftRecord) (gs : List GrantRecord) → first (by_draft d) xs ≡ None → On xs gs → AllByRecursion (λ g. is_on_draft d g ≡ false) gs
+pub none_on : (d : ℕ) (xs : List DraftRecord) (gs : List GrantRecord) → first (by_draft d) xs ≡ None → On xs gs → AllByRecursion (λ g. is_on_draft d g ≡ false) gs
 none_on d xs gs absent opens =
     All-weaker (λ g. is_some (first (by_draft g.draft) xs) ≡ true) (λ g. is_on_draft d g ≡ false)
     (λ g found. ne_eqb g.draft d (λ same. false≢true (sym (ap (λ o. is_some o) absent) ∙ (sym (ap (λ (n : ℕ). is_some (first (by_draft n) xs)) same) ∙ found)))) gs opens
 
-count_none : (d : ℕ) (gs : List GrantRecord) → AllByRecursion (λ g. is_on_draft d g ≡ false) gs → count_by (is_on_draft d) gs ≡ 0
+pub count_none : (d : ℕ) (gs : List GrantRecord) → AllByRecursion (λ g. is_on_draft d g ≡ false) gs → count_by (is_on_draft d) gs ≡ 0
 count_none d gs none = sym (length-filter (is_on_draft d) gs) ∙ ap length (kept_none (is_on_draft d) gs none)
 
 -- records of another number, where this number does not count

@@ -8,6 +8,7 @@ pub mod Locality
 pub mod Marked
 pub mod Obeyed
 pub mod Promised
+pub mod Reservations
 pub mod Rights
 pub mod Separation
 pub mod Serials

@@ -16,6 +16,7 @@ use Rattle.model.specs.State.{State, state, draft_of, reserved, Once}
 use Rattle.rights.specs.declared.register.Register.{Register}
 use Rattle.rights.specs.Contents.{contents}
 use Rattle.model.proofs.Invariant.{reached_next, reached_orderly, reached_sound, room_left}
+use Rattle.model.proofs.Reservations.{few_on_draft}
 use Rattle.model.proofs.Sounds.{sound_known}
 
 -- a history leads to what these tables hold, so that their books are in order
@@ -48,6 +49,9 @@ module _ (was : Register) where
   pub room_for_one : (d : ℕ) (x : DraftRecord) → draft_of d (contents was) ≡ Some x → count_by (is_on_draft d) (used was.grants) < x.cells → length (used was.grants) < room was.grants
   room_for_one d x found fewer =
       ∥∥₁_elim was.reached le_prop (λ reached. room_left (contents was) d x (reached_orderly (contents was) reached) found fewer)
+
+  pub few_grants : (d : ℕ) → count_by (is_on_draft d) (used was.grants) ≤ 1024
+  few_grants d = ∥∥₁_elim was.reached le_prop (λ reached. few_on_draft (contents was) reached d)
 
   pub sound_throughout : SoundThroughout (contents was)
   sound_throughout d r x found =

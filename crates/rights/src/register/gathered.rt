@@ -8,12 +8,15 @@ ghost use Rattle.rights.specs.Gathering.{gathered};
 use crate::register::Register;
 use arrayvec::ArrayVec;
 use charts::Mark;
-use terms::CELLS;
+use terms::DRAFT_CELLS;
+
+// No draft has more grants, since none reserves more cells.
+const MARKS: usize = DRAFT_CELLS as usize;
 
 // The grants of the right, and how many of all rights are on the draft.
 #[derive(Drop)]
 pub(crate) struct Gathered {
-    marks: ArrayVec<Mark, CELLS>,
+    marks: ArrayVec<Mark, MARKS>,
     pub(crate) on_draft: usize,
 }
 
@@ -27,7 +30,7 @@ impl Gathered {
 }
 
 impl Register<'_> {
-    // Costs a step for each grant, and the filling of 32 KB.
+    // Costs a step for each grant, and the filling of 8 KB.
     #[tactic(auto, using(table::proofs::Cells::used_within))]
     pub(crate) fn gather(&self, draft: u16, right: u8) -> Gathered
         ensures marks { gathered result ≡ of_right draft right (contents self.now).grants }
