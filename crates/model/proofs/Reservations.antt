@@ -1,5 +1,5 @@
 -- No draft reserves more than 1,024 cells, after any history; so none has more grants. Assumes nothing.
-use Rattle.std.proofs.Common.{◌≡◌, ℕ, ◌+◌, ◌≤◌, Bool, true, false, cond, not, eqb, ltb, List, [], ◌∷◌, ◌++◌, Some, None, count_by, filter, Option, sym, refl, subst, arith}
+use Rattle.std.proofs.Common.{◌≡◌, ℕ, ◌+◌, ◌≤◌, true, false, cond, not, eqb, ltb, List, [], ◌∷◌, Some, None, count_by, refl, subst, arith}
 use Rattle.std.specs.List.{AllByRecursion}
 use Rattle.std.proofs.ByRecursion.{All-push, all_kept_by}
 use Rattle.std.proofs.lemmas.Bool.{ltb-false, or_parts}

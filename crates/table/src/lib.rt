@@ -10,7 +10,7 @@ ghost use Rattle.std.specs.Prelude.{◌≡◌, ◌+◌, ◌<◌, ◌≤◌, Bool
 ghost use Rattle.std.specs.Fn.{CalledAt};
 ghost use Rattle.std.specs.List.Retain.{IsFiltered};
 
-// A record that goes by a key.
+// A record that goes by a key. It says itself whether a key is its own, so that a key need not be `Eq`.
 pub trait Record: Copy {
     type Key: Copy;
 
@@ -20,7 +20,7 @@ pub trait Record: Copy {
         ensures { result ≡ has self.now key };
 }
 
-// A rule that tells which records stay in a table.
+// A rule that tells which records stay in a table. With a closure in its place `retain` would have a `requires`.
 pub trait Retain<R> {
     ghost stays: { Self → R → Bool };
 

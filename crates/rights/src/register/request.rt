@@ -1,11 +1,13 @@
 ghost use Rattle.std.specs.Prelude.{◌≡◌, Some};
+ghost use Rattle.settlement.specs.Picking.{settled};
 ghost use Rattle.model.specs.Calls.Call.{requesting};
 ghost use Rattle.model.specs.Calls.Reply.{decided};
+ghost use Rattle.model.specs.Delegation.{lines_of, signs_of};
 ghost use Rattle.model.specs.Grants.{of_right};
 ghost use Rattle.model.specs.Law.{AnswersByTheList};
 ghost use Rattle.model.specs.Meaning.{reply};
 ghost use Rattle.model.specs.Refusals.{topmost};
-ghost use Rattle.model.specs.Sheets.{answer};
+ghost use Rattle.model.specs.Sheets.{answer, by_pick};
 ghost use Rattle.rights.specs.Asking.{rows_of_asking};
 ghost use Rattle.rights.specs.Contents.{contents};
 ghost use Rattle.rights.specs.Faults.{refused_by, replied, TellsDraft};
@@ -74,6 +76,22 @@ impl Register<'_> {
         if account == found.owner {
             return (Decision::Permitted, Some(account));
         }
+        self.answer_another(ruling, draft, right, account, found)
+    }
+
+    // What decides for another account than the owner. It stands apart from `answer`, since a function pays for the
+    // size of its marks as soon as it is called.
+    fn answer_another<R: Ruling>(
+        &self,
+        ruling: &R,
+        draft: u16,
+        right: u8,
+        account: u16,
+        found: &DraftRecord,
+    ) -> (Decision, Option<u16>)
+        ensures { let marks = of_right draft right (contents self.now).grants in
+            result ≡ by_pick marks (settled (lines_of marks) (signs_of marks) found.now.owner (R.ranking ruling.now) found.now.policy account) }
+    {
         let gathered = self.gather(draft, right);
         let marks = gathered.marks();
         if !is_named(marks, account) {
