@@ -18,17 +18,16 @@ const PAGE: usize = 10240;
 
 pub(crate) type Page = Text<PAGE>;
 
-// The lines of all accounts. Costs a few steps for each account.
+// Puts the lines of all accounts into an empty page. Costs a few steps for each account.
 #[tactic(auto, using(crate::proofs::Pages::joining))]
-pub(crate) fn page_of(owner: u16, marks: &[Mark], picks: &Settlement) -> Page
-    ensures { result ≡ joined_below 512 (λ a. entry a (by_picks owner marks.now (picked picks.now) a)) }
+pub(crate) fn put_lines(page: &mut Page, owner: u16, marks: &[Mark], picks: &Settlement)
+    requires { page.old ≡ [] }
+    ensures { page.new ≡ joined_below 512 (λ a. entry a (by_picks owner marks.now (picked picks.now) a)) }
 {
-    let mut page = Text::new();
     for account in 0..ACCOUNTS {
         let answer = answer_for(owner, marks, picks, account);
-        put_entry(&mut page, account, answer).unwrap();
+        put_entry(page, account, answer).unwrap();
     }
-    page
 }
 
 // Puts the account's line, where it has one.

@@ -1,7 +1,7 @@
 use Rattle.std.proofs.Common.{◌≡◌, ◌*◌, ◌≤◌, length}
 use Rattle.settlement.specs.Picked.{picked}
 use Rattle.model.specs.Sheets.{by_picks, entry, joined_below}
-use Rattle.rights.proofs.page.page_of.Given as goal
+use Rattle.rights.proofs.page.put_lines.Given as goal
 
 abbrev pub invariant-loop-account : goal.invariant-loop-account
 invariant-loop-account l = record {
