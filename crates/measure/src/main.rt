@@ -66,6 +66,8 @@ fn main(rt: HostRuntime) -> anyhow::Result<()> {
     }
 }
 
+// Each of these three stays a function of its own, so that the times of one do not change with the code of another.
+#[inline(never)]
 fn search_often(rt: &HostRuntime, plan: &Plan) -> anyhow::Result<()> {
     let marks = draw(rt.alloc(), plan)?;
     let chart = Marks { marks: &marks };
@@ -74,6 +76,7 @@ fn search_often(rt: &HostRuntime, plan: &Plan) -> anyhow::Result<()> {
     Ok(())
 }
 
+#[inline(never)]
 fn settle_often(rt: &HostRuntime, plan: &Plan) -> anyhow::Result<()> {
     let marks = draw(rt.alloc(), plan)?;
     let chart = Marks { marks: &marks };
@@ -85,6 +88,7 @@ fn settle_often(rt: &HostRuntime, plan: &Plan) -> anyhow::Result<()> {
 }
 
 // Asks for account 511 on the last of four full drafts.
+#[inline(never)]
 fn ask_often(rt: &HostRuntime, plan: &Plan) -> anyhow::Result<()> {
     let heap = rt.alloc();
     let mut places = vec![in heap; DraftRecord::default(); 4]?;
