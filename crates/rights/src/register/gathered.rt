@@ -30,7 +30,7 @@ impl Gathered {
 }
 
 impl Register<'_> {
-    // Costs a step for each grant, and the filling of 8 KB.
+    // Costs a step for each grant, and the filling and moving of 8 KB.
     #[tactic(auto, using(table::proofs::Cells::used_within))]
     pub(crate) fn gather(&self, draft: u16, right: u8) -> Gathered
         ensures marks { gathered result ≡ of_right draft right (contents self.now).grants }
